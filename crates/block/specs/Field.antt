@@ -1,0 +1,20 @@
+-- The field of 2^128 elements, modulo x^128 + x^7 + x^2 + x + 1. A block is the number that its sixteen bytes spell.
+-- Of a larger number only the 128 lowest bits count, so that the laws hold of all numbers.
+use Prim.Native.Nat.{ℕ, zero, suc, _*_, _/_, _%_, _^_}
+use lib.Bits.{bitXor}
+
+-- a block shifted left by one bit and, where a one fell out, with 0x87 XORed into its last byte
+unfoldable pub double : ℕ → ℕ
+double a = bitXor (a * 2 % 2 ^ 128) (a / 2 ^ 127 % 2 * 0x87)
+
+-- the XOR, over every one bit among the n lowest of b, of a doubled as often as the rank of that bit
+unfoldable pub sum : ℕ → ℕ → ℕ → ℕ
+sum zero a b = 0
+sum (suc n) a b = bitXor (b % 2 * a) (sum n (double a) (b / 2))
+
+unfoldable pub product : ℕ → ℕ → ℕ
+product a b = sum 128 (a % 2 ^ 128) b
+
+unfoldable pub power : ℕ → ℕ → ℕ
+power a zero = 1
+power a (suc n) = product (power a n) a
