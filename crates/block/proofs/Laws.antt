@@ -193,6 +193,11 @@ product-zero a = product-xor-right a 0 0 ∙ xor-self (product a 0)
 pub product-double : (a b : ℕ) → product a (double b) ≡ double (product a b)
 product-double a b = product-comm a (double b) ∙ product-double-left b a ∙ ap double (product-comm b a)
 
+pub double-is : (a : ℕ) → double a ≡ product a 2
+double-is a =
+    sym (double-mod a) ∙ ap double (sym (product-comm a 1 ∙ one-product a)) ∙ sym (product-double a 1)
+    ∙ ap (product a) (double-small 1 (lit< tt))
+
 pub square-xor : (a b : ℕ) → product (bitXor a b) (bitXor a b) ≡ bitXor (product a a) (product b b)
 square-xor a b =
     product-xor-left a b (bitXor a b)
@@ -210,65 +215,3 @@ unfolding power
 power-add a m zero = ap (power a) (add-zero m) ∙ sym (product-one (power a m) (power-lt a m))
 power-add a m (suc n) =
     ap (power a) (add-suc m n) ∙ ap (λ (x : ℕ). product x a) (power-add a m n) ∙ product-assoc (power a m) (power a n) a
-
--- ---- a loop that takes a product bit by bit: what is summed, with what is left to sum, stays as it is
-
-pub turn : (i s a b s′ a′ b′ p : ℕ) → i < 128 → s′ ≡ bitXor s (b % 2 * a) → a′ ≡ double a → b′ ≡ b / 2
-    → bitXor s (sum (128 - i) a b) ≡ p → bitXor s′ (sum (128 - (i + 1)) a′ b′) ≡ p
-unfolding sum
-turn i s a b s′ a′ b′ p h es ea eb inv =
-    let e : suc (128 - (i + 1)) ≡ 128 - i = omega arith in
-    ap₂ bitXor es (ap₂ (sum (128 - (i + 1))) ea eb)
-    ∙ xor-assoc s (b % 2 * a) (sum (128 - (i + 1)) (double a) (b / 2))
-    ∙ ap (λ (n : ℕ). bitXor s (sum n a b)) e
-    ∙ inv
-
-pub turn-end : (i s a b p : ℕ) → 128 ≤ i → bitXor s (sum (128 - i) a b) ≡ p → s ≡ p
-unfolding sum
-turn-end i s a b p h inv =
-    let e : 0 ≡ 128 - i = omega arith in
-    sym (xor-zero-r s) ∙ ap (λ (n : ℕ). bitXor s (sum n a b)) e ∙ inv
-
--- a bit that is one, and one that is zero
-pub with-bit : (x s a : ℕ) → x ≡ 1 → bitXor s a ≡ bitXor s (x * a)
-with-bit x s a e = simp (e, one-mul)
-
-pub without-bit : (x s a : ℕ) → x ≡ 0 → s ≡ bitXor s (x * a)
-without-bit x s a e = simp (e, zero-mul, xor-zero-r)
-
--- ---- a product half a byte at a time
-
-pub product-shift : (a q : ℕ) → q < 2 ^ 127 → product a (q * 2) ≡ double (product a q)
-product-shift a q h = ap (product a) (sym (double-small q h)) ∙ product-double a q
-
-pub horner : (a q r : ℕ) → q < 2 ^ 124 → r < 16
-    → product a (q * 16 + r) ≡ bitXor (double (double (double (double (product a q))))) (product a r)
-horner a q r hq hr =
-    ap (product a) (sym (xor-shifted q 4 r hr)) ∙ product-xor-right a (q * 16) r ∙ ap (λ (x : ℕ). bitXor x (product a r)) times16
-  where
-    times16 : product a (q * 16) ≡ double (double (double (double (product a q))))
-    times16 =
-        let e : q * 16 ≡ q * 2 * 2 * 2 * 2 = omega arith in
-        ap (product a) e ∙ product-shift a (q * 2 * 2 * 2) (omega arith)
-        ∙ ap double (product-shift a (q * 2 * 2) (omega arith) ∙ ap double (product-shift a (q * 2) (omega arith) ∙ ap double (product-shift a q (omega arith))))
-
--- one half byte more, from the top: s is the product with what stands above it
-pub nibble-turn : (a b i s s′ : ℕ) → b < 2 ^ 128 → i < 32 → s ≡ product a (b / 2 ^ (128 - 4 * i))
-    → s′ ≡ bitXor (double (double (double (double s)))) (product a (b / 2 ^ (124 - 4 * i) % 16))
-    → s′ ≡ product a (b / 2 ^ (128 - 4 * (i + 1)))
-nibble-turn a b i s s′ hb hi es es′ =
-    es′ ∙ ap (λ (x : ℕ). bitXor (double (double (double (double x)))) (product a (part % 16))) (es ∙ ap (product a) above)
-    ∙ sym (horner a (part / 16) (part % 16) small (mod-lt part (lit< tt))) ∙ ap (product a) (split part 4)
-    ∙ ap (λ (k : ℕ). product a (b / 2 ^ k)) rank
-  where
-    part : ℕ
-    part = b / 2 ^ (124 - 4 * i)
-
-    rank : 124 - 4 * i ≡ 128 - 4 * (i + 1)
-    rank = omega arith
-
-    above : b / 2 ^ (128 - 4 * i) ≡ b / 2 ^ (124 - 4 * i) / 16
-    above = let e : 128 - 4 * i ≡ 124 - 4 * i + 4 = omega arith in ap (λ (k : ℕ). b / 2 ^ k) e ∙ sym (shr-shr b (124 - 4 * i) 4)
-
-    small : b / 2 ^ (124 - 4 * i) / 16 < 2 ^ 124
-    small = omega (arith, shr-le b (124 - 4 * i))

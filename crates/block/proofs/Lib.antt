@@ -1,2 +1,4 @@
 pub mod Laws
+pub mod Product
+pub mod Spelling
 pub mod Words

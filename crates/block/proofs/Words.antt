@@ -2,17 +2,17 @@
 use mathlib.Core.Path.{_≡_, refl, sym, ap, ap₂, _∙_}
 use mathlib.Core.List.{List, [], _∷_, _++_, map}
 use Prim.Native.Nat.{ℕ, zero, suc, _+_, _-_, _*_, _/_, _%_, _^_, _<_, _≤_}
-use native.Mathlib.Nat.{mod-eq-of-lt, zero-add, mul-comm, mul-assoc, add-mul, add-assoc, pow-suc, one-le-pow}
 use native.Mathlib.Omega.{arith}
-use lib.Dec.{lit<}
-use lib.Arith.{mod-mul}
-use lib.Bits.{bitXor, bitOr, bitAnd, xor-block, xor-zero-r, or-shifted, and-mask}
+use borrow.Author.Tests.{eqb-true, eqb-false, eq-true, ne-eqb}
+use lib.Dec.{eqb}
+use mathlib.Core.Bool.{Bool, true, false, _&&_}
+use lib.Bits.{bitXor, bitOr, bitAnd, xor-block, xor-zero-r, or-shifted}
 use lib.ListN.{length, getD}
-use lib.Pow.{low, high, shr-shr, field, mod-mod-pow}
+use lib.Pow.{low}
 use Rattle.std.specs.Iters.{counting}
 use Rattle.std.proofs.shelf.Counted.{fill-by-all}
 use Rattle.block.specs.Field.{double}
-use Rattle.block.specs.Bytes.{after, spelled, bytes}
+use Rattle.block.specs.Bytes.{spelled, bytes}
 use Rattle.block.proofs.Laws.{bit-cases}
 
 -- the words of a block, apart
@@ -70,42 +70,22 @@ word x =
     ∷ x / 256 ^ 3 % 256 ∷ x / 256 ^ 2 % 256 ∷ x / 256 % 256 ∷ x % 256 ∷ []
 
 pub bytes-16 : (h l : ℕ) → h < 2 ^ 64 → l < 2 ^ 64 → word h ++ word l ≡ bytes 16 (h * 2 ^ 64 + l)
+unfolding bytes
 bytes-16 h l hh hl =
     ap₂ _∷_ (omega arith) (ap₂ _∷_ (omega arith) (ap₂ _∷_ (omega arith) (ap₂ _∷_ (omega arith)
     (ap₂ _∷_ (omega arith) (ap₂ _∷_ (omega arith) (ap₂ _∷_ (omega arith) (ap₂ _∷_ (omega arith)
     (ap₂ _∷_ (omega arith) (ap₂ _∷_ (omega arith) (ap₂ _∷_ (omega arith) (ap₂ _∷_ (omega arith)
     (ap₂ _∷_ (omega arith) (ap₂ _∷_ (omega arith) (ap₂ _∷_ (omega arith) (ap₂ _∷_ (omega arith) refl)))))))))))))))
 
--- ---- half a byte of a block is one of a word
+-- ---- two blocks are the same number where their words are the same
 
-pub nibble-high : (h l s : ℕ) → l < 2 ^ 64 → (h * 2 ^ 64 + l) / 2 ^ (64 + s) % 16 ≡ h / 2 ^ s % 16
-nibble-high h l s hl = ap (λ (x : ℕ). x % 16) (sym (shr-shr (h * 2 ^ 64 + l) 64 s) ∙ ap (λ (x : ℕ). x / 2 ^ s) (high h 64 hl))
-
-pub nibble-low : (h l s : ℕ) → l < 2 ^ 64 → s ≤ 60 → (h * 2 ^ 64 + l) / 2 ^ s % 16 ≡ l / 2 ^ s % 16
-nibble-low h l s hl hs =
-    sym (field (h * 2 ^ 64 + l) 4 s) ∙ ap (λ (x : ℕ). x / 2 ^ s) (below (h * 2 ^ 64 + l) ∙ ap (λ (x : ℕ). x % 2 ^ (4 + s)) (low h 64 hl))
-    ∙ field l 4 s
+pub words-eqb : (h h′ l l′ : ℕ) → l < 2 ^ 64 → l′ < 2 ^ 64 → (eqb h h′ && eqb l l′) ≡ eqb (h * 2 ^ 64 + l) (h′ * 2 ^ 64 + l′)
+words-eqb h h′ l l′ hl hl′ = by-cases (eqb h h′) (eqb l l′) refl refl
   where
-    below : (n : ℕ) → n % 2 ^ (4 + s) ≡ n % 2 ^ 64 % 2 ^ (4 + s)
-    below n =
-        let e : (60 - s) + (4 + s) ≡ 64 = omega arith in
-        sym (ap (λ (k : ℕ). n % 2 ^ k % 2 ^ (4 + s)) (sym e) ∙ mod-mod-pow n (60 - s) (4 + s))
+    apart : (h * 2 ^ 64 + l ≡ h′ * 2 ^ 64 + l′ → ⊥) → false ≡ eqb (h * 2 ^ 64 + l) (h′ * 2 ^ 64 + l′)
+    apart ne = sym (ne-eqb (h * 2 ^ 64 + l) (h′ * 2 ^ 64 + l′) ne)
 
-pub nibble-mask : (x : ℕ) → bitAnd x 15 ≡ x % 16
-nibble-mask x = and-mask x 4
-
--- ---- what is written is read back
-
-pub after-bytes : (n y x : ℕ) → after y (bytes n x) ≡ y * 256 ^ n + x % 256 ^ n
-after-bytes zero y x = omega arith
-after-bytes (suc n) y x =
-    after-bytes n (y * 256 + x / 256 ^ n % 256) x
-    ∙ regroup y (x / 256 ^ n % 256) (256 ^ n) (x % 256 ^ n)
-    ∙ ap (λ (z : ℕ). y * (256 * 256 ^ n) + z) (sym (mod-mul x (lit< tt) (one-le-pow n 256 (lit< tt))))
-    ∙ ap (λ (z : ℕ). y * z + x % z) (mul-comm 256 (256 ^ n) ∙ sym (pow-suc 256 n))
-  where
-    regroup : (y d c r : ℕ) → (y * 256 + d) * c + r ≡ y * (256 * c) + (d * c + r)
-    regroup y d c r = ap (λ (z : ℕ). z + r) (add-mul (y * 256) d c ∙ ap (λ (z : ℕ). z + d * c) (mul-assoc y 256 c)) ∙ add-assoc (y * (256 * c)) (d * c) r
-
-pub spelled-bytes : (x : ℕ) → x < 2 ^ 128 → spelled (bytes 16 x) ≡ x
-spelled-bytes x h = after-bytes 16 0 x ∙ zero-add (x % 2 ^ 128) ∙ mod-eq-of-lt h
+    by-cases : (x y : Bool) → eqb h h′ ≡ x → eqb l l′ ≡ y → (x && y) ≡ eqb (h * 2 ^ 64 + l) (h′ * 2 ^ 64 + l′)
+    by-cases true true p q = eq-true (h * 2 ^ 64 + l) (h′ * 2 ^ 64 + l′) (omega (arith, eqb-true h h′ p, eqb-true l l′ q))
+    by-cases true false p q = apart (λ e. eqb-false l l′ q (omega arith))
+    by-cases false y p q = apart (λ e. eqb-false h h′ p (omega arith))

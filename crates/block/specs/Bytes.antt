@@ -8,14 +8,14 @@ abbrev pub AllBytes : List ℕ → Type 0
 AllBytes bs = (k : ℕ) → k < length bs → getD bs k 0 < 256
 
 -- the number that the bytes spell after x
-abbrev pub after : ℕ → List ℕ → ℕ
+unfoldable pub after : ℕ → List ℕ → ℕ
 after x [] = x
 after x (b ∷ bs) = after (x * 256 + b) bs
 
-abbrev pub spelled : List ℕ → ℕ
+unfoldable pub spelled : List ℕ → ℕ
 spelled bs = after 0 bs
 
 -- the n lowest bytes of x
-abbrev pub bytes : ℕ → ℕ → List ℕ
+unfoldable pub bytes : ℕ → ℕ → List ℕ
 bytes zero x = []
 bytes (suc n) x = x / 256 ^ n % 256 ∷ bytes n x

@@ -102,7 +102,7 @@ pub impl PartialEq<Block> for Block as BlockPartialEq {
     ghost equals = { λ a b r. r ≡ eqb (num a) (num b) };
 
     fn eq(&self, other: &Block) -> bool {
-        self.hi == other.hi && self.lo == other.lo
+        (self.hi == other.hi) & (self.lo == other.lo)
     }
 }
 

@@ -4,7 +4,8 @@ use native.Mathlib.Omega.{arith}
 use borrow.Author.Needs.{needs}
 use lib.Bits.{bitXor}
 use Rattle.block.specs.Num.{num}
-use Rattle.block.proofs.Laws.{product-sum, turn, turn-end, with-bit, without-bit}
+use Rattle.block.proofs.Laws.{product-sum}
+use Rattle.block.proofs.Product.{turn, turn-end, with-bit, without-bit}
 use Rattle.block.proofs.Block.product.Needs as need
 use Rattle.block.proofs.Block.product.Needs.{then-rest-eq1, else-rest-eq1}
 
@@ -14,7 +15,7 @@ loop-holds c = product-sum (num (c .args .self)) (num (c .args .other)) (search 
 summed : (c : need.After-half-rest) → num (c .if-rest-eq1 .sum) ≡ bitXor (num (c .loop .sum)) (num (c .loop .rest) % 2 * num (c .loop .doubled))
 summed c =
     elim (c .if-rest-eq1 .came) [
-      | then-rest-eq1 w ↦ ap num (w .sum-is) ∙ w .xor-sum .ensures ∙ with-bit (num (c .loop .rest) % 2) (num (c .loop .sum)) (num (c .loop .doubled)) (omega (arith, w .if-rest-eq1 .taken))
+      | then-rest-eq1 w ↦ ap num (w .sum-is) ∙ w .bitxor-sum .ensures ∙ with-bit (num (c .loop .rest) % 2) (num (c .loop .sum)) (num (c .loop .doubled)) (omega (arith, w .if-rest-eq1 .taken))
       | else-rest-eq1 w ↦ ap num (w .sum-is) ∙ without-bit (num (c .loop .rest) % 2) (num (c .loop .sum)) (num (c .loop .doubled)) (omega (arith, w .if-rest-eq1 .left))
     ]
 
