@@ -1,0 +1,4 @@
+pub mod Hashes
+pub mod Inverts
+pub mod Pads
+pub mod Streams

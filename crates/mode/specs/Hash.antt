@@ -1,0 +1,27 @@
+-- The hash of a header and a message, under the hash key l.
+use mathlib.Core.List.{List, [], _∷_}
+use Prim.Native.Nat.{ℕ}
+use lib.Bits.{bitXor}
+use lib.ListN.{length}
+use Rattle.std.specs.declared.option.Option.{Option}
+use Rattle.std.specs.declared.option.Option.the-variants.{Some, None}
+use Rattle.block.specs.Field.{product, power}
+use Rattle.mode.specs.Padding.{factor, padded}
+
+-- each block times the power of l that its place calls for, the last one times 1
+unfoldable pub weighted : ℕ → List ℕ → ℕ
+weighted l [] = 0
+weighted l (x ∷ xs) = bitXor (product (power l (length xs)) x) (weighted l xs)
+
+-- the polynomial f of a list of m blocks, led by the m-th power of l
+unfoldable pub poly : ℕ → List ℕ → ℕ
+poly l xs = bitXor (power l (length xs)) (weighted l xs)
+
+-- what one string adds: the power of l of its place, times the square of its polynomial, times its factor
+unfoldable pub term : ℕ → ℕ → List ℕ → ℕ
+term l place x = product (product (power l place) (power (poly l (padded x)) 2)) (factor x)
+
+-- the vector hash F; with no header only the message's term stands
+unfoldable pub hash : ℕ → Option (List ℕ) → List ℕ → ℕ
+hash l None m = term l 2 m
+hash l (Some h) m = bitXor (term l 1 h) (term l 2 m)

@@ -1,0 +1,6 @@
+pub mod Hash
+pub mod Padding
+pub mod Sealing
+pub mod Stream
+pub mod Theorems
+pub mod Worked
