@@ -17,9 +17,13 @@ weighted l (x ∷ xs) = bitXor (product (power l (length xs)) x) (weighted l xs)
 unfoldable pub poly : ℕ → List ℕ → ℕ
 poly l xs = bitXor (power l (length xs)) (weighted l xs)
 
--- what one string adds: the power of l of its place, times the square of its polynomial, times its factor
+-- the square of a string's polynomial, times its factor
+unfoldable pub squared : ℕ → List ℕ → ℕ
+squared l x = product (power (poly l (padded x)) 2) (factor x)
+
+-- what one string adds: that, times the power of l of its place
 unfoldable pub term : ℕ → ℕ → List ℕ → ℕ
-term l place x = product (product (power l place) (power (poly l (padded x)) 2)) (factor x)
+term l place x = product (power l place) (squared l x)
 
 -- the vector hash F; with no header only the message's term stands
 unfoldable pub hash : ℕ → Option (List ℕ) → List ℕ → ℕ

@@ -1,4 +1,8 @@
 // The HBS mode of deterministic authenticated encryption, over every cipher and multiplier.
+pub mod hash;
+mod padding;
+pub mod stream;
+
 ghost use Rattle.mode.specs.Theorems.{Inverses};
 ghost use Rattle.mode.specs.Worked.{WorkedCases};
 
