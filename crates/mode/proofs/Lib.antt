@@ -1,4 +1,5 @@
 pub mod Hashes
 pub mod Inverts
 pub mod Pads
+pub mod Seals
 pub mod Streams

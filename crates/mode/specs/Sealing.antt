@@ -13,9 +13,12 @@ pub record Sealed : Type 0 where
   pub tag : ℕ
   pub text : List ℕ
 
+abbrev pub pair : ℕ → List ℕ → Sealed
+pair t x = record { tag = t; text = x }
+
 -- under the hash key l and the maps e and d
 unfoldable pub sealedBy : ℕ → (ℕ → ℕ) → Option (List ℕ) → List ℕ → Sealed
-sealedBy l e h m = let s = hash l h m in record { tag = e s; text = streamed e s m }
+sealedBy l e h m = let s = hash l h m in pair (e s) (streamed e s m)
 
 unfoldable pub openedBy : ℕ → (ℕ → ℕ) → (ℕ → ℕ) → Option (List ℕ) → Sealed → Option (List ℕ)
 openedBy l e d h c = let s = d (c .tag) in let m = streamed e s (c .text) in cond (eqb (hash l h m) s) (Some m) None

@@ -9,14 +9,11 @@ use Rattle.block.specs.Bytes.{bytes}
 use Rattle.cipher.specs.Bench.{bench}
 use Rattle.mode.specs.Hash.{hash}
 use Rattle.mode.specs.Padding.{pad}
-use Rattle.mode.specs.Sealing.{Sealed, sealed, opened}
+use Rattle.mode.specs.Sealing.{pair, sealed, opened}
 
 -- the sixteen bytes of the block that holds j
 abbrev pub block : ℕ → List ℕ
 block j = bytes 16 j
-
-abbrev pub pair : ℕ → List ℕ → Sealed
-pair t c = record { tag = t; text = c }
 
 pub record WorkedCases : Type 0 where
   pub doubling : double (0x80 * 256 ^ 15) ≡ 135

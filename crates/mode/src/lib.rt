@@ -1,6 +1,7 @@
 // The HBS mode of deterministic authenticated encryption, over every cipher and multiplier.
 pub mod hash;
 mod padding;
+pub mod sealing;
 pub mod stream;
 
 ghost use Rattle.mode.specs.Theorems.{Inverses};
