@@ -1,0 +1,14 @@
+-- What wrap and unwrap answer: the number of each refusal, and 0 for acceptance, which brings no value.
+use Prim.Native.Nat.{ℕ}
+use Rattle.std.specs.declared.result.Result.{Result}
+use Rattle.std.specs.declared.result.Result.the-variants.{Ok, Err}
+use Rattle.seal.specs.declared.fault.SealFault.{SealFault}
+use Rattle.seal.specs.declared.fault.SealFault.the-variants.{Size, Mismatch}
+
+abbrev pub refusal : SealFault → ℕ
+refusal Size = 4
+refusal Mismatch = 14
+
+abbrev pub answered : Result (Unit {0}) SealFault → ℕ
+answered (Ok done) = 0
+answered (Err fault) = refusal fault

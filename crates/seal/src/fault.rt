@@ -1,0 +1,33 @@
+// Why a message is not wrapped or unwrapped.
+ghost use Rattle.seal.specs.Answers.{refusal};
+ghost use mathlib.Core.Path.{_≡_};
+use std::fmt;
+
+#[derive(Clone, Copy, PartialEq, Eq, Debug)]
+pub enum SealFault {
+    /// The key, the header, the tag buffer or the text is not of a size that is taken.
+    Size,
+    /// The hash of what was opened is not the one that the tag stands for.
+    Mismatch,
+}
+
+impl SealFault {
+    /// The number that the outside knows the fault by.
+    pub fn number(self) -> u32
+        ensures { λ r. ⌜ r ≡ refusal self ⌝ }
+    {
+        match self {
+            SealFault::Size => 4,
+            SealFault::Mismatch => 14,
+        }
+    }
+}
+
+pub impl fmt::Display for SealFault as SealFaultDisplay {
+    fn fmt<W: fmt::Write>(&self, f: &mut fmt::Formatter<W>) -> fmt::Result {
+        match self {
+            SealFault::Size => write!(f, "key, header, tag or text of a wrong size"),
+            SealFault::Mismatch => write!(f, "tag and text do not belong together under this key and header"),
+        }
+    }
+}

@@ -1,0 +1,89 @@
+// Wrap and unwrap: sealing and opening of one message in place, with the key handed in.
+ghost use Prim.Native.Nat.{ℕ};
+ghost use Rattle.block.specs.Bytes.{bytes as spelling, spelled};
+ghost use Rattle.block.specs.Num.{num};
+ghost use Rattle.mode.specs.Sealing.{opened, sealed};
+ghost use Rattle.seal.specs.Answers.{answered};
+ghost use Rattle.seal.specs.Sizes.{sized};
+ghost use Rattle.seal.specs.Wrapping.{Authentic, Keyed, given, left, unwrapped, unwrapping, wrappedTag, wrappedText};
+ghost use Rattle.std.specs.Options.{mapped};
+ghost use Rattle.std.specs.Results.{Cases};
+ghost use Rattle.std.specs.declared.option.Option.the-variants.{Some};
+ghost use lib.Dec.{eqb};
+ghost use lib.ListN.{length};
+ghost use mathlib.Core.Bool.{cond, false, true};
+ghost use mathlib.Core.Path.{_≡_};
+use crate::fault::SealFault;
+use crate::sizes::buffers_fit;
+use crate::watch::Watch;
+use block::Block;
+use cipher::Cipher;
+use mode::sealing::load_key;
+use mode::sealing::seal;
+use multiplier::Multiplier;
+
+/// Seals `text` in place under `key`, and writes the tag.
+///
+/// Refused by `Size` where the key, the header, the tag buffer or the text is not of a size that is taken;
+/// then nothing is altered. Else the cipher keeps the key, and the multiplier its hash key.
+pub fn wrap<C: Cipher, M: Multiplier>(
+    cipher: &mut C,
+    multiplier: &mut M,
+    key: &[u8],
+    header: Option<&[u8]>,
+    tag: &mut [u8],
+    text: &mut [u8],
+) -> Result<(), SealFault>
+    ensures answers { λ r. ⌜ answered r ≡ cond (sized (scheme (now (cipher .entry))) (now (key .entry)) (mapped now (header .entry)) (now (tag .entry)) (now (text .entry))) 0 4 ⌝ }
+    ensures tags { λ _. ⌜ now (tag .exit) ≡ wrappedTag (scheme (now (cipher .entry))) (now (key .entry)) (mapped now (header .entry)) (now (tag .entry)) (now (text .entry)) ⌝ }
+    ensures texts { λ _. ⌜ now (text .exit) ≡ wrappedText (scheme (now (cipher .entry))) (now (key .entry)) (mapped now (header .entry)) (now (tag .entry)) (now (text .entry)) ⌝ }
+    ensures opens { λ r. ⌜ (answered r ≡ 0 → opened (scheme (now (cipher .entry))) (now (key .entry)) (mapped now (header .entry)) (given (now (tag .exit)) (now (text .exit))) ≡ Some (now (text .entry))) ⌝ }
+    ensures keys { λ _. ⌜ Keyed (sized (scheme (now (cipher .entry))) (now (key .entry)) (mapped now (header .entry)) (now (tag .entry)) (now (text .entry))) (now (key .entry)) (scheme (now (cipher .entry))) (loaded (now (cipher .entry))) (element (now (multiplier .entry))) (scheme (now (cipher .exit))) (loaded (now (cipher .exit))) (element (now (multiplier .exit))) ⌝ }
+    ensures alters { λ _. ⌜ (sized (scheme (now (cipher .entry))) (now (key .entry)) (mapped now (header .entry)) (now (tag .entry)) (now (text .entry)) ≡ false → now (cipher .exit) ≡ now (cipher .entry)) ⌝ ∗ ⌜ (sized (scheme (now (cipher .entry))) (now (key .entry)) (mapped now (header .entry)) (now (tag .entry)) (now (text .entry)) ≡ false → now (multiplier .exit) ≡ now (multiplier .entry)) ⌝ }
+{
+    if !buffers_fit(header, tag, text) {
+        return Err(SealFault::Size);
+    }
+    if !load_key(cipher, multiplier, key) {
+        return Err(SealFault::Size);
+    }
+    let sealed = seal(cipher, multiplier, header, text).to_bytes();
+    tag.copy_from_slice(&sealed);
+    Ok(())
+}
+
+/// Opens `text` in place under `key`, where it belongs to the header and the tag.
+///
+/// Refused by `Size` as `wrap` is, and by `Mismatch` where no message seals to the header, the tag and the
+/// text under that key. Whatever the refusal, every byte of `text` is then zero.
+pub fn unwrap<C: Cipher, M: Multiplier>(
+    cipher: &mut C,
+    multiplier: &mut M,
+    key: &[u8],
+    header: Option<&[u8]>,
+    tag: &[u8],
+    text: &mut [u8],
+) -> Result<(), SealFault>
+    ensures answers { λ r. ⌜ answered r ≡ unwrapping (scheme (now (cipher .entry))) (now (key .entry)) (mapped now (header .entry)) (now (tag .entry)) (now (text .entry)) ⌝ }
+    ensures leaves { λ _. ⌜ now (text .exit) ≡ left (unwrapped (scheme (now (cipher .entry))) (now (key .entry)) (mapped now (header .entry)) (now (tag .entry)) (now (text .entry))) (now (text .entry)) ⌝ }
+    ensures authentic { λ r. ⌜ Authentic (scheme (now (cipher .entry))) (now (key .entry)) (mapped now (header .entry)) (now (tag .entry)) (now (text .entry)) (answered r) (now (text .exit)) ⌝ }
+    ensures keys { λ _. ⌜ Keyed (sized (scheme (now (cipher .entry))) (now (key .entry)) (mapped now (header .entry)) (now (tag .entry)) (now (text .entry))) (now (key .entry)) (scheme (now (cipher .entry))) (loaded (now (cipher .entry))) (element (now (multiplier .entry))) (scheme (now (cipher .exit))) (loaded (now (cipher .exit))) (element (now (multiplier .exit))) ⌝ }
+    ensures alters { λ _. ⌜ (sized (scheme (now (cipher .entry))) (now (key .entry)) (mapped now (header .entry)) (now (tag .entry)) (now (text .entry)) ≡ false → now (cipher .exit) ≡ now (cipher .entry)) ⌝ ∗ ⌜ (sized (scheme (now (cipher .entry))) (now (key .entry)) (mapped now (header .entry)) (now (tag .entry)) (now (text .entry)) ≡ false → now (multiplier .exit) ≡ now (multiplier .entry)) ⌝ }
+{
+    let mut watch = Watch {
+        bytes: text,
+        released: false,
+    };
+    if !watch.fits(header, tag) {
+        return Err(SealFault::Size);
+    }
+    if !load_key(cipher, multiplier, key) {
+        return Err(SealFault::Size);
+    }
+    let mut bytes = [0; 16];
+    bytes.copy_from_slice(tag);
+    if !watch.open(cipher, multiplier, header, Block::from_bytes(bytes)) {
+        return Err(SealFault::Mismatch);
+    }
+    Ok(())
+}
