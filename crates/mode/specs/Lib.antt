@@ -1,4 +1,5 @@
 pub mod Hash
+pub mod Keys
 pub mod Padding
 pub mod Sealing
 pub mod Stream

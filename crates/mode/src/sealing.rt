@@ -1,13 +1,14 @@
 // Sealing and opening in place, under the key and the hash key that are held.
 ghost use Prim.Native.Nat.{ℕ};
 ghost use Rattle.block.specs.Num.{num};
+ghost use Rattle.mode.specs.Keys.{Keyed};
 ghost use Rattle.mode.specs.Sealing.{openedBy, pair, sealedBy};
 ghost use Rattle.mode.specs.Stream.{streamed};
 ghost use Rattle.std.specs.Options.{mapped};
 ghost use Rattle.std.specs.declared.option.Option.the-variants.{None, Some};
 ghost use lib.Dec.{eqb};
 ghost use lib.ListN.{length};
-ghost use mathlib.Core.Bool.{cond, false, true};
+ghost use mathlib.Core.Bool.{cond};
 ghost use mathlib.Core.Path.{_≡_};
 use crate::hash::hash;
 use crate::stream::apply_stream;
@@ -20,10 +21,7 @@ use multiplier::Multiplier;
 /// answered no, and alters nothing.
 pub fn load_key<C: Cipher, M: Multiplier>(cipher: &mut C, multiplier: &mut M, key: &[u8]) -> bool
     ensures fits { λ r. ⌜ r ≡ eqb (length (now (key .entry))) (scheme (now (cipher .entry)) .key-len) ⌝ }
-    ensures scheme { λ _. ⌜ scheme (now (cipher .exit)) ≡ scheme (now (cipher .entry)) ⌝ }
-    ensures sets { λ r. ⌜ (r ≡ true → loaded (now (cipher .exit)) ≡ now (key .entry)) ⌝ }
-    ensures derives { λ r. ⌜ (r ≡ true → element (now (multiplier .exit)) ≡ scheme (now (cipher .entry)) .enc (now (key .entry)) 0) ⌝ }
-    ensures alters { λ r. ⌜ (r ≡ false → now (cipher .exit) ≡ now (cipher .entry)) ⌝ ∗ ⌜ (r ≡ false → now (multiplier .exit) ≡ now (multiplier .entry)) ⌝ }
+    ensures keys { λ r. ⌜ Keyed C·Cipher M·Multiplier r (now (key .entry)) (now (cipher .entry)) (now (multiplier .entry)) (now (cipher .exit)) (now (multiplier .exit)) ⌝ }
 {
     if !cipher.load(key) {
         return false;

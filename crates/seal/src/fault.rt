@@ -1,5 +1,6 @@
 // Why a message is not wrapped or unwrapped.
-ghost use Rattle.seal.specs.Answers.{refusal};
+ghost use Rattle.seal.specs.Answers.{refusal, words};
+ghost use Rattle.std.specs.declared.option.Option.the-variants.{Some};
 ghost use mathlib.Core.Path.{_≡_};
 use std::fmt;
 
@@ -21,13 +22,22 @@ impl SealFault {
             SealFault::Mismatch => 14,
         }
     }
+
+    /// What is wrong, in words.
+    pub fn words(self) -> &'static str
+        ensures { λ r. ⌜ now r ≡ words self ⌝ }
+    {
+        match self {
+            SealFault::Size => "a length is not one that is taken",
+            SealFault::Mismatch => "tag and text do not belong together under this key and header",
+        }
+    }
 }
 
 pub impl fmt::Display for SealFault as SealFaultDisplay {
+    ghost shown = { λ fault. Some (words fault) };
+
     fn fmt<W: fmt::Write>(&self, f: &mut fmt::Formatter<W>) -> fmt::Result {
-        match self {
-            SealFault::Size => write!(f, "key, header, tag or text of a wrong size"),
-            SealFault::Mismatch => write!(f, "tag and text do not belong together under this key and header"),
-        }
+        f.write_str(self.words())
     }
 }

@@ -44,7 +44,13 @@ impl Watch<'_> {
     }
 
     /// Opens the bytes where they stand, and releases them if they are authentic.
-    pub(crate) fn open<C: Cipher, M: Multiplier>(&mut self, cipher: &C, multiplier: &M, header: Option<&[u8]>, tag: Block) -> bool
+    pub(crate) fn open<C: Cipher, M: Multiplier>(
+        &mut self,
+        cipher: &C,
+        multiplier: &M,
+        header: Option<&[u8]>,
+        tag: Block,
+    ) -> bool
         ensures opens { λ r. ⌜ cond r (Some (now (now (self .exit) .bytes))) None ≡ openedBy (element (now (multiplier .entry))) (scheme (now (cipher .entry)) .enc (loaded (now (cipher .entry)))) (scheme (now (cipher .entry)) .dec (loaded (now (cipher .entry)))) (mapped now (header .entry)) (pair (num tag) (now (now (self .entry) .bytes))) ⌝ }
         ensures releases { λ r. ⌜ now (self .exit) .released ≡ r ⌝ }
         ensures same { λ _. ⌜ name (now (self .exit) .bytes) ≡ name (now (self .entry) .bytes) ⌝ }

@@ -1,18 +1,9 @@
 // Wrap and unwrap: sealing and opening of one message in place, with the key handed in.
-ghost use Prim.Native.Nat.{ℕ};
-ghost use Rattle.block.specs.Bytes.{bytes as spelling, spelled};
-ghost use Rattle.block.specs.Num.{num};
-ghost use Rattle.mode.specs.Sealing.{opened, sealed};
+ghost use Rattle.mode.specs.Keys.{Keyed};
 ghost use Rattle.seal.specs.Answers.{answered};
 ghost use Rattle.seal.specs.Sizes.{sized};
-ghost use Rattle.seal.specs.Wrapping.{Authentic, Keyed, given, left, unwrapped, unwrapping, wrappedTag, wrappedText};
+ghost use Rattle.seal.specs.Wrapping.{Unwrapped, Wrapped};
 ghost use Rattle.std.specs.Options.{mapped};
-ghost use Rattle.std.specs.Results.{Cases};
-ghost use Rattle.std.specs.declared.option.Option.the-variants.{Some};
-ghost use lib.Dec.{eqb};
-ghost use lib.ListN.{length};
-ghost use mathlib.Core.Bool.{cond, false, true};
-ghost use mathlib.Core.Path.{_≡_};
 use crate::fault::SealFault;
 use crate::sizes::buffers_fit;
 use crate::watch::Watch;
@@ -34,12 +25,8 @@ pub fn wrap<C: Cipher, M: Multiplier>(
     tag: &mut [u8],
     text: &mut [u8],
 ) -> Result<(), SealFault>
-    ensures answers { λ r. ⌜ answered r ≡ cond (sized (scheme (now (cipher .entry))) (now (key .entry)) (mapped now (header .entry)) (now (tag .entry)) (now (text .entry))) 0 4 ⌝ }
-    ensures tags { λ _. ⌜ now (tag .exit) ≡ wrappedTag (scheme (now (cipher .entry))) (now (key .entry)) (mapped now (header .entry)) (now (tag .entry)) (now (text .entry)) ⌝ }
-    ensures texts { λ _. ⌜ now (text .exit) ≡ wrappedText (scheme (now (cipher .entry))) (now (key .entry)) (mapped now (header .entry)) (now (tag .entry)) (now (text .entry)) ⌝ }
-    ensures opens { λ r. ⌜ (answered r ≡ 0 → opened (scheme (now (cipher .entry))) (now (key .entry)) (mapped now (header .entry)) (given (now (tag .exit)) (now (text .exit))) ≡ Some (now (text .entry))) ⌝ }
-    ensures keys { λ _. ⌜ Keyed (sized (scheme (now (cipher .entry))) (now (key .entry)) (mapped now (header .entry)) (now (tag .entry)) (now (text .entry))) (now (key .entry)) (scheme (now (cipher .entry))) (loaded (now (cipher .entry))) (element (now (multiplier .entry))) (scheme (now (cipher .exit))) (loaded (now (cipher .exit))) (element (now (multiplier .exit))) ⌝ }
-    ensures alters { λ _. ⌜ (sized (scheme (now (cipher .entry))) (now (key .entry)) (mapped now (header .entry)) (now (tag .entry)) (now (text .entry)) ≡ false → now (cipher .exit) ≡ now (cipher .entry)) ⌝ ∗ ⌜ (sized (scheme (now (cipher .entry))) (now (key .entry)) (mapped now (header .entry)) (now (tag .entry)) (now (text .entry)) ≡ false → now (multiplier .exit) ≡ now (multiplier .entry)) ⌝ }
+    ensures seals { λ r. ⌜ Wrapped (scheme (now (cipher .entry))) (now (key .entry)) (mapped now (header .entry)) (now (tag .entry)) (now (text .entry)) (answered r) (now (tag .exit)) (now (text .exit)) ⌝ }
+    ensures keys { λ _. ⌜ Keyed C·Cipher M·Multiplier (sized (scheme (now (cipher .entry))) (now (key .entry)) (mapped now (header .entry)) (now (tag .entry)) (now (text .entry))) (now (key .entry)) (now (cipher .entry)) (now (multiplier .entry)) (now (cipher .exit)) (now (multiplier .exit)) ⌝ }
 {
     if !buffers_fit(header, tag, text) {
         return Err(SealFault::Size);
@@ -64,11 +51,8 @@ pub fn unwrap<C: Cipher, M: Multiplier>(
     tag: &[u8],
     text: &mut [u8],
 ) -> Result<(), SealFault>
-    ensures answers { λ r. ⌜ answered r ≡ unwrapping (scheme (now (cipher .entry))) (now (key .entry)) (mapped now (header .entry)) (now (tag .entry)) (now (text .entry)) ⌝ }
-    ensures leaves { λ _. ⌜ now (text .exit) ≡ left (unwrapped (scheme (now (cipher .entry))) (now (key .entry)) (mapped now (header .entry)) (now (tag .entry)) (now (text .entry))) (now (text .entry)) ⌝ }
-    ensures authentic { λ r. ⌜ Authentic (scheme (now (cipher .entry))) (now (key .entry)) (mapped now (header .entry)) (now (tag .entry)) (now (text .entry)) (answered r) (now (text .exit)) ⌝ }
-    ensures keys { λ _. ⌜ Keyed (sized (scheme (now (cipher .entry))) (now (key .entry)) (mapped now (header .entry)) (now (tag .entry)) (now (text .entry))) (now (key .entry)) (scheme (now (cipher .entry))) (loaded (now (cipher .entry))) (element (now (multiplier .entry))) (scheme (now (cipher .exit))) (loaded (now (cipher .exit))) (element (now (multiplier .exit))) ⌝ }
-    ensures alters { λ _. ⌜ (sized (scheme (now (cipher .entry))) (now (key .entry)) (mapped now (header .entry)) (now (tag .entry)) (now (text .entry)) ≡ false → now (cipher .exit) ≡ now (cipher .entry)) ⌝ ∗ ⌜ (sized (scheme (now (cipher .entry))) (now (key .entry)) (mapped now (header .entry)) (now (tag .entry)) (now (text .entry)) ≡ false → now (multiplier .exit) ≡ now (multiplier .entry)) ⌝ }
+    ensures opens { λ r. ⌜ Unwrapped (scheme (now (cipher .entry))) (now (key .entry)) (mapped now (header .entry)) (now (tag .entry)) (now (text .entry)) (answered r) (now (text .exit)) ⌝ }
+    ensures keys { λ _. ⌜ Keyed C·Cipher M·Multiplier (sized (scheme (now (cipher .entry))) (now (key .entry)) (mapped now (header .entry)) (now (tag .entry)) (now (text .entry))) (now (key .entry)) (now (cipher .entry)) (now (multiplier .entry)) (now (cipher .exit)) (now (multiplier .exit)) ⌝ }
 {
     let mut watch = Watch {
         bytes: text,
