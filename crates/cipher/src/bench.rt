@@ -1,5 +1,6 @@
 // A cipher for the bench.
-ghost use Rattle.cipher.specs.Bench.{bench};
+ghost use Rattle.block.specs.Num.{num};
+ghost use Rattle.cipher.specs.Bench.{bench, xored};
 ghost use lib.ListN.{replicate};
 ghost use mathlib.Core.Path.{_≡_};
 use crate::Cipher;
@@ -19,6 +20,12 @@ impl Bench {
     {
         Bench { key: [0; 16] }
     }
+
+    fn xor(&self, block: Block) -> Block
+        ensures { λ r. ⌜ num r ≡ xored (now (self .entry) .key) (num block) ⌝ }
+    {
+        block ^ Block::from_bytes(self.key)
+    }
 }
 
 pub impl Cipher for Bench as BenchCipher {
@@ -27,7 +34,7 @@ pub impl Cipher for Bench as BenchCipher {
     ghost loaded = { λ c. c .key };
 
     fn key_len(&self) -> usize {
-        16
+        self.key.len()
     }
 
     fn load(&mut self, key: &[u8]) -> bool {
@@ -41,10 +48,10 @@ pub impl Cipher for Bench as BenchCipher {
     }
 
     fn encipher(&self, block: Block) -> Block {
-        block ^ Block::from_bytes(self.key)
+        self.xor(block)
     }
 
     fn decipher(&self, block: Block) -> Block {
-        block ^ Block::from_bytes(self.key)
+        self.xor(block)
     }
 }

@@ -12,7 +12,7 @@ use native.Mathlib.Nat.{mod-eq-of-lt}
 use native.Mathlib.Numerals.{add-one}
 use Rattle.block.specs.Field.{double, product, power}
 use Rattle.block.proofs.Laws.{one-product, double-is, product-lt, product-mod, product-zero, product-one, product-comm, product-assoc, product-xor-right, xor-swap}
-use Rattle.mode.specs.Hash.{weighted, poly, squared, term, hash}
+use Rattle.mode.specs.Hash.{weighted, poly, squared, headerSquared, term, hash}
 use Rattle.mode.specs.Padding.{whole, factor, padded}
 
 -- ---- the hash is a block
@@ -92,19 +92,16 @@ unfolding power
 times-one l a =
     product-comm l (product 1 a) ∙ ap (λ (y : ℕ). product y l) (one-product a) ∙ product-mod a l ∙ product-comm a l
 
-pub term-first : (l : ℕ) (x : List ℕ) → term l 1 x ≡ product l (squared l x)
+term-first : (l : ℕ) (x : List ℕ) → term l 1 x ≡ product l (squared l x)
 unfolding term
 term-first l x = times-power l 0 (squared l x) ∙ times-one l (squared l x)
 
-pub term-second : (l : ℕ) (x : List ℕ) → term l 2 x ≡ product l (product l (squared l x))
+term-second : (l : ℕ) (x : List ℕ) → term l 2 x ≡ product l (product l (squared l x))
 unfolding term
 term-second l x = times-power l 1 (squared l x) ∙ ap (product l) (times-power l 0 (squared l x) ∙ times-one l (squared l x))
 
-pub hash-none : (l : ℕ) (m : List ℕ) → product l (product l (squared l m)) ≡ hash l None m
+pub hash-is : (l : ℕ) (h : Option (List ℕ)) (m : List ℕ) → product l (bitXor (headerSquared l h) (product l (squared l m))) ≡ hash l h m
 unfolding hash
-hash-none l m = sym (term-second l m)
-
-pub hash-some : (l : ℕ) (h m : List ℕ) → product l (bitXor (squared l h) (product l (squared l m))) ≡ hash l (Some h) m
-unfolding hash
-hash-some l h m =
+hash-is l None m = sym (term-second l m)
+hash-is l (Some h) m =
     product-xor-right l (squared l h) (product l (squared l m)) ∙ ap₂ bitXor (sym (term-first l h)) (sym (term-second l m))

@@ -19,7 +19,6 @@ data Kind (x : List ℕ) : Type 0 where
   is-part : (length x % 16 ≡ 0 → length x ≡ 0) → whole x ≡ false → Kind x
 
 kind : (x : List ℕ) → Kind x
-unfolding whole
 kind x = by-cases (eqb (length x) 0) (eqb (length x % 16) 0) refl refl
   where
     by-cases : (a b : Bool) → eqb (length x) 0 ≡ a → eqb (length x % 16) 0 ≡ b → Kind x

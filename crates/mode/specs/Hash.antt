@@ -21,6 +21,11 @@ poly l xs = bitXor (power l (length xs)) (weighted l xs)
 unfoldable pub squared : ℕ → List ℕ → ℕ
 squared l x = product (power (poly l (padded x)) 2) (factor x)
 
+-- .. of a header, and nothing where it is absent
+abbrev pub headerSquared : ℕ → Option (List ℕ) → ℕ
+headerSquared l None = 0
+headerSquared l (Some h) = squared l h
+
 -- what one string adds: that, times the power of l of its place
 unfoldable pub term : ℕ → ℕ → List ℕ → ℕ
 term l place x = product (power l place) (squared l x)

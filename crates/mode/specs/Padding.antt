@@ -7,7 +7,7 @@ use lib.ListN.{length, take, drop, replicate}
 use Rattle.block.specs.Bytes.{spelled}
 
 -- whether a string is whole blocks, and at least one
-unfoldable pub whole : List ℕ → Bool
+abbrev pub whole : List ℕ → Bool
 whole x = cond (eqb (length x) 0) false (eqb (length x % 16) 0)
 
 -- whole blocks stand as they are; any other string gets 0x80 and then the fewest zeros that fill a block

@@ -1,7 +1,7 @@
 // The hash of a header and a message.
 ghost use Prim.Native.Nat.{ℕ};
 ghost use Rattle.block.specs.Num.{num};
-ghost use Rattle.mode.specs.Hash.{hash as hashed, poly, squared};
+ghost use Rattle.mode.specs.Hash.{hash as hashed, headerSquared, poly, squared};
 ghost use Rattle.mode.specs.Padding.{padded};
 ghost use Rattle.std.specs.Options.{mapped};
 ghost use mathlib.Core.Path.{_≡_};
@@ -36,13 +36,20 @@ fn square<M: Multiplier>(multiplier: &M, text: &[u8]) -> Block
     }
 }
 
+/// What a header brings: an absent one nothing.
+fn header_square<M: Multiplier>(multiplier: &M, header: Option<&[u8]>) -> Block
+    ensures { λ r. ⌜ num r ≡ headerSquared (element (now (multiplier .entry))) (mapped now (header .entry)) ⌝ }
+{
+    match header {
+        Some(header) => square(multiplier, header),
+        None => Block::ZERO,
+    }
+}
+
 /// The hash of a header, which may be absent, and a message, under the element held.
 pub fn hash<M: Multiplier>(multiplier: &M, header: Option<&[u8]>, message: &[u8]) -> Block
     ensures { λ r. ⌜ num r ≡ hashed (element (now (multiplier .entry))) (mapped now (header .entry)) (now (message .entry)) ⌝ }
 {
     let of_message = multiplier.times(square(multiplier, message));
-    match header {
-        Some(header) => multiplier.times(square(multiplier, header) ^ of_message),
-        None => multiplier.times(of_message),
-    }
+    multiplier.times(header_square(multiplier, header) ^ of_message)
 }

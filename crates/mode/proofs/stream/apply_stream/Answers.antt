@@ -22,7 +22,7 @@ loop-i-again g c =
     let n = count xs in
     let count-is-end = count-is xs in
     let next : 16 * i + 16 ≡ 16 * (i + 1) = omega arith in
-    let key = c .to-bytes-key .ensures ∙ ap (bytes 16) (c .encipher .ensures ∙ ap e (c .bitxor .ensures ∙ ap (bitXor s) (c .from-number .ensures))) in
+    let key = c .to-bytes-key .ensures ∙ ap (bytes 16) (c .encipher .ensures ∙ ap e (c .counter .ensures)) in
     block-turn xs (stream e s 0 n) (bytes 16 (e (bitXor s (i + 1)))) (stream e s (i + 1) (n - (i + 1))) (16 * i)
     (omega arith) (covers e s xs) (length-bytes 16 (e (bitXor s (i + 1)))) (stream-at e s i n (omega arith))
     (c .loop-i .text) (c .xor-into .last .part) (c .min-end .result - 16 * i) (omega arith) (c .loop-i .inv)
