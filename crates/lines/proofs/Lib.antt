@@ -1,0 +1,5 @@
+pub mod Decoding
+pub mod Encoding
+pub mod Splitting
+pub mod Answering
+pub mod ReadBack
