@@ -3,11 +3,11 @@
 use Prim.Native.Nat.{ℕ, zero, suc, _*_, _/_, _%_, _^_}
 use lib.Bits.{bitXor}
 
--- a block shifted left by one bit and, where a one fell out, with 0x87 XORed into its last byte
+-- shifted left by one bit, and reduced by 0x87 where the bit that left was a one
 unfoldable pub double : ℕ → ℕ
 double a = bitXor (a * 2 % 2 ^ 128) (a / 2 ^ 127 % 2 * 0x87)
 
--- the XOR, over every one bit among the n lowest of b, of a doubled as often as the rank of that bit
+-- over the n lowest bits of b: each that is a one contributes a, doubled once for every bit below it
 unfoldable pub sum : ℕ → ℕ → ℕ → ℕ
 sum zero a b = 0
 sum (suc n) a b = bitXor (b % 2 * a) (sum n (double a) (b / 2))

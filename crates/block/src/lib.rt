@@ -67,7 +67,7 @@ impl Block {
         }
     }
 
-    /// The product in the field: for every one bit of `other`, `self` doubled as often as that bit's rank.
+    /// The product in the field: each one bit of `other` adds `self`, doubled once for every bit below it.
     pub fn product(self, other: Block) -> Block
         ensures { λ r. ⌜ num r ≡ product (num self) (num other) ⌝ }
     {

@@ -10,7 +10,7 @@ use Rattle.block.specs.Bytes.{spelled}
 abbrev pub whole : List ℕ → Bool
 whole x = cond (eqb (length x) 0) false (eqb (length x % 16) 0)
 
--- whole blocks stand as they are; any other string gets 0x80 and then the fewest zeros that fill a block
+-- whole blocks are left alone; anything else is extended by 0x80 and by zeros up to the next block boundary
 unfoldable pub pad : List ℕ → List ℕ
 pad x = cond (whole x) x (x ++ (0x80 ∷ replicate (15 - length x % 16) 0))
 

@@ -2,6 +2,7 @@
 ghost use Rattle.seal.specs.Answers.{refusal, words};
 ghost use Rattle.std.specs.declared.option.Option.the-variants.{Some};
 ghost use mathlib.Core.Path.{_≡_};
+use std::error::Error;
 use std::fmt;
 
 #[derive(Clone, Copy, PartialEq, Eq, Debug)]
@@ -41,3 +42,5 @@ pub impl fmt::Display for SealFault as SealFaultDisplay {
         f.write_str(self.words())
     }
 }
+
+pub impl Error for SealFault as SealFaultError {}
