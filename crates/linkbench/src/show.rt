@@ -11,6 +11,7 @@ use seal::fault::SealFaultError;
 use seal::wrapping::unwrap;
 use seal::wrapping::wrap;
 use std::error::AnyError;
+use std::str::from_utf8;
 
 const KEY: [u8; 16] = [
     0x2b,
@@ -31,7 +32,7 @@ const KEY: [u8; 16] = [
     0x3c,
 ];
 
-const HEADER: &[u8; 7] = b"gauge 3";
+const HEADER: &str = "gauge 3";
 
 const MEASUREMENT: &[u8; 18] = b"thickness 0.502 mm";
 
@@ -44,10 +45,18 @@ fn is_zero(bytes: &[u8]) -> bool {
     true
 }
 
-/// A name, and bytes in hex.
+/// A name, and bytes in hex ..
 fn field(rt: &LibcRuntime, name: &str, bytes: &[u8]) -> Result<(), AnyError> {
-    let text = hex::encode(rt.alloc(), bytes)?;
-    println!(rt, "  {name:<12} {text}")?;
+    let digits = hex::encode(rt.alloc(), bytes)?;
+    println!(rt, "  {name:<12} {digits}")?;
+    Ok(())
+}
+
+/// .. and the text that they are.
+fn text_field(rt: &LibcRuntime, name: &str, bytes: &[u8]) -> Result<(), AnyError> {
+    let digits = hex::encode(rt.alloc(), bytes)?;
+    let text = from_utf8(bytes)?;
+    println!(rt, "  {name:<12} {digits} ({text})")?;
     Ok(())
 }
 
@@ -56,7 +65,7 @@ fn outcome(rt: &LibcRuntime, answer: Result<(), SealFault>, text: &[u8]) -> Resu
     match answer {
         Ok(()) => {
             println!(rt, "  accepted")?;
-            field(rt, "measurement", text)?;
+            text_field(rt, "measurement", text)
         }
         Err(fault) => {
             let number = fault.number();
@@ -65,28 +74,29 @@ fn outcome(rt: &LibcRuntime, answer: Result<(), SealFault>, text: &[u8]) -> Resu
             if is_zero(text) {
                 println!(rt, "  every byte of the buffer is zero")?;
             }
+            Ok(())
         }
     }
-    Ok(())
 }
 
 pub fn show(rt: &LibcRuntime) -> Result<(), AnyError> {
     let mut cipher = Bench::new();
     let mut multiplier = Doubling::new();
+    let header = HEADER.as_bytes();
     println!(
         rt,
         "A measurement, under the bench cipher (which hides nothing) and the doubling multiplier"
     )?;
     field(rt, "key", &KEY)?;
-    field(rt, "header", HEADER)?;
-    field(rt, "measurement", MEASUREMENT)?;
+    text_field(rt, "header", header)?;
+    text_field(rt, "measurement", MEASUREMENT)?;
     let mut tag = [0; 16];
     let mut text = *MEASUREMENT;
     wrap(
         &mut cipher,
         &mut multiplier,
         &KEY,
-        Some(HEADER),
+        Some(header),
         &mut tag,
         &mut text,
     )?;
@@ -100,7 +110,7 @@ pub fn show(rt: &LibcRuntime) -> Result<(), AnyError> {
         &mut cipher,
         &mut multiplier,
         &KEY,
-        Some(HEADER),
+        Some(header),
         &tag,
         &mut text,
     );
@@ -110,7 +120,7 @@ pub fn show(rt: &LibcRuntime) -> Result<(), AnyError> {
         &mut cipher,
         &mut multiplier,
         &KEY,
-        Some(HEADER),
+        Some(header),
         &tag,
         &mut damaged,
     );

@@ -1,0 +1,4 @@
+//! What lines that ask to wrap and to unwrap are answered.
+
+mod text;
+pub mod wrapping;
