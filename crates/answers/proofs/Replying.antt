@@ -12,7 +12,7 @@ use Rattle.lines.specs.Lines.{ToWrap, ToUnwrap}
 use Rattle.mode.specs.Sealing.{opened}
 use Rattle.seal.specs.Sizes.{sized}
 use Rattle.seal.specs.Wrapping.{given, left, verdict, Wrapped, Unwrapped}
-use Rattle.answers.specs.Texts.{sealedText, openedText, refusedText}
+use Rattle.answers.specs.Texts.{sealedText, openedText}
 use Rattle.answers.specs.Replies.{noTag, openedReply, wrapReply, unwrapReply}
 
 -- the answer 0 is given only past the size test

@@ -1,11 +1,11 @@
 -- The laws of the field.
-use mathlib.Core.Path.{_≡_, refl, sym, ap, ap₂, _∙_, subst}
+use mathlib.Core.Path.{_≡_, refl, sym, ap, ap₂, _∙_}
 use Prim.Native.Nat.{ℕ, zero, suc, _+_, _-_, _*_, _/_, _%_, _^_, _<_, _≤_}
-use native.Mathlib.Nat.{mod-lt, mod-eq-of-lt, mod-one, mod-mod, add-suc, div-eq-of-lt, zero-mul, one-mul, mul-one, mul-assoc, mul-comm, add-zero, zero-add, pow-suc, zero-lt-suc, le-of-suc-le-suc, not-suc-le-zero}
+use native.Mathlib.Nat.{mod-lt, mod-eq-of-lt, mod-one, mod-mod, add-suc, div-eq-of-lt, zero-mul, one-mul, mul-one, mul-assoc, mul-comm, add-zero, pow-suc, zero-lt-suc, le-of-suc-le-suc, not-suc-le-zero}
 use native.Mathlib.Omega.{arith}
 use lib.Dec.{lit<, lit≤}
 use lib.Bits.{bitXor, xor-assoc, xor-comm, xor-self, xor-zero-r, xor-shr, xor-mod, xor-block, xor-lt, xor-shifted}
-use lib.Pow.{pow-pos, pow-lt, shr-le, shr-shr, split, field, mod-pow-add}
+use lib.Pow.{pow-pos, pow-lt, field, mod-pow-add}
 use Rattle.block.specs.Field.{double, sum, product, power}
 
 -- ---- exclusive or, regrouped

@@ -1,5 +1,5 @@
 // Blocks of sixteen bytes, and their arithmetic in the field of 2^128 elements.
-ghost use Prim.Native.Nat.{ℕ, _*_, _/_, _%_, _^_};
+ghost use Prim.Native.Nat.{_/_, _%_, _^_};
 ghost use Rattle.block.specs.Bytes.{bytes as spelling, spelled};
 ghost use Rattle.block.specs.Field.{double, product};
 ghost use Rattle.block.specs.Num.{num};

@@ -6,6 +6,7 @@ ghost use Rattle.lines.specs.declared.fault.LineFault.the-variants.{NoMemory};
 ghost use Rattle.lines.specs.Words.{fieldName, formFields, faultText};
 use std::alloc::AllocError;
 use std::alloc::Refused;
+use std::error::Error;
 use std::fmt;
 
 /// A field of a line.
@@ -94,3 +95,5 @@ pub impl fmt::Display for LineFault as LineFaultDisplay {
         }
     }
 }
+
+pub impl Error for LineFault as LineFaultError {}

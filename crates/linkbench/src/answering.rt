@@ -16,7 +16,7 @@ fn without_newline(line: &[u8]) -> &[u8] {
     }
 }
 
-pub fn answer_lines<C: Cipher + Drop, M: Multiplier + Drop>(
+pub(crate) fn answer_lines<C: Cipher + Drop, M: Multiplier + Drop>(
     rt: &LibcRuntime,
     task: Task,
     mut cipher: C,

@@ -1,13 +1,13 @@
 // What a caller may name.
 
 #[derive(Clone, Copy)]
-pub enum Task {
+pub(crate) enum Task {
     Wrap,
     Unwrap,
 }
 
 impl Task {
-    pub fn named(name: &str) -> Option<Task> {
+    pub(crate) fn named(name: &str) -> Option<Task> {
         match name {
             "wrap" => Some(Task::Wrap),
             "unwrap" => Some(Task::Unwrap),
@@ -17,12 +17,12 @@ impl Task {
 }
 
 #[derive(Clone, Copy)]
-pub enum CipherName {
+pub(crate) enum CipherName {
     Bench,
 }
 
 impl CipherName {
-    pub fn named(name: &str) -> Option<CipherName> {
+    pub(crate) fn named(name: &str) -> Option<CipherName> {
         match name {
             "bench" => Some(CipherName::Bench),
             _ => None,
@@ -31,12 +31,12 @@ impl CipherName {
 }
 
 #[derive(Clone, Copy)]
-pub enum MultiplierName {
+pub(crate) enum MultiplierName {
     Doubling,
 }
 
 impl MultiplierName {
-    pub fn named(name: &str) -> Option<MultiplierName> {
+    pub(crate) fn named(name: &str) -> Option<MultiplierName> {
         match name {
             "doubling" => Some(MultiplierName::Doubling),
             _ => None,

@@ -79,7 +79,7 @@ fn outcome(rt: &LibcRuntime, answer: Result<(), SealFault>, text: &[u8]) -> Resu
     }
 }
 
-pub fn show(rt: &LibcRuntime) -> Result<(), AnyError> {
+pub(crate) fn show(rt: &LibcRuntime) -> Result<(), AnyError> {
     let mut cipher = Bench::new();
     let mut multiplier = Doubling::new();
     let header = HEADER.as_bytes();

@@ -11,7 +11,7 @@ use Rattle.std.specs.declared.option.Option.the-variants.{Some, None}
 use native.Mathlib.Nat.{mod-eq-of-lt}
 use native.Mathlib.Numerals.{add-one}
 use Rattle.block.specs.Field.{double, product, power}
-use Rattle.block.proofs.Laws.{one-product, double-is, product-lt, product-mod, product-zero, product-one, product-comm, product-assoc, product-xor-right, xor-swap}
+use Rattle.block.proofs.Laws.{one-product, double-is, product-lt, product-mod, product-zero, product-one, product-comm, product-assoc, product-xor-right}
 use Rattle.mode.specs.Hash.{weighted, poly, squared, headerSquared, term, hash}
 use Rattle.mode.specs.Padding.{whole, factor, padded}
 

@@ -1,18 +1,17 @@
 -- Opening undoes sealing, and nothing else opens.
 use mathlib.Core.Bool.{Bool, true, false, cond}
 use mathlib.Core.List.{List}
-use mathlib.Core.Path.{_≡_, refl, sym, ap, ap₂, subst, _∙_}
+use mathlib.Core.Path.{_≡_, refl, sym, ap, ap₂, _∙_}
 use Prim.Native.Nat.{ℕ, _^_, _<_}
 use native.Mathlib.Omega.{arith}
 use borrow.Author.Tests.{eqb-true, eq-eqb}
-use lib.Dec.{eqb, lit<}
+use lib.Dec.{eqb}
 use Rattle.std.specs.declared.option.Option.{Option}
 use Rattle.std.specs.declared.option.Option.the-variants.{Some, None}
-use Rattle.cipher.specs.Scheme.{Scheme, IsKey, Lawful}
 use Rattle.mode.specs.Hash.{hash}
 use Rattle.mode.specs.Sealing.{Sealed, sealedBy, openedBy, sealed, opened}
 use Rattle.mode.specs.Stream.{streamed}
-use Rattle.mode.specs.Theorems.{Inverse, Inverses}
+use Rattle.mode.specs.Theorems.{Inverses}
 use Rattle.mode.proofs.Hashes.{hash-lt}
 use Rattle.mode.proofs.Streams.{streamed-twice}
 

@@ -1,5 +1,4 @@
 // The hash of a header and a message.
-ghost use Prim.Native.Nat.{ℕ};
 ghost use Rattle.block.specs.Num.{num};
 ghost use Rattle.mode.specs.Hash.{hash as hashed, headerSquared, poly, squared};
 ghost use Rattle.mode.specs.Padding.{padded};

@@ -1,5 +1,4 @@
 // Sealing and opening in place, under the key and the hash key that are held.
-ghost use Prim.Native.Nat.{ℕ};
 ghost use Rattle.block.specs.Num.{num};
 ghost use Rattle.mode.specs.Keys.{Keyed};
 ghost use Rattle.mode.specs.Sealing.{openedBy, pair, sealedBy};

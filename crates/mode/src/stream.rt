@@ -1,5 +1,5 @@
 // The counter stream.
-ghost use Prim.Native.Nat.{ℕ, _+_, _^_, _<_, _≤_};
+ghost use Prim.Native.Nat.{_+_, _^_, _<_, _≤_};
 ghost use Rattle.block.specs.Num.{num};
 ghost use Rattle.mode.specs.Stream.{streamed, xors};
 ghost use lib.Bits.{bitXor};

@@ -1,13 +1,12 @@
 // A guard over bytes that are being opened.
 ghost use Rattle.block.specs.Num.{num};
 ghost use Rattle.mode.specs.Sealing.{openedBy, pair};
-ghost use Rattle.mode.specs.Stream.{streamed};
 ghost use Rattle.seal.specs.Sizes.{buffersSized};
 ghost use Rattle.seal.specs.Wrapping.{cleared};
 ghost use Rattle.std.specs.Options.{mapped};
 ghost use Rattle.std.specs.declared.option.Option.the-variants.{None, Some};
 ghost use denote.Ref.{name};
-ghost use mathlib.Core.Bool.{cond, true};
+ghost use mathlib.Core.Bool.{cond};
 ghost use mathlib.Core.Path.{_≡_};
 use crate::sizes::buffers_fit;
 use block::Block;

@@ -1,4 +1,3 @@
-use mathlib.Core.Path.{_∙_}
 use borrow.Author.Needs.{needs}
 use Rattle.block.proofs.Words.{bytes-16}
 use Rattle.block.proofs.Block.to_bytes.Needs as need

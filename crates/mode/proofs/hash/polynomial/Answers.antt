@@ -1,6 +1,6 @@
 use borrow.Author.Needs.{needs}
 use lib.Bits.{bitXor}
-use mathlib.Core.Path.{sym, ap, ap₂, _∙_}
+use mathlib.Core.Path.{sym, ap, _∙_}
 use native.Mathlib.Omega.{arith}
 use Rattle.std.proofs.shelf.Lists.{take-all}
 use Rattle.block.specs.Num.{num}

@@ -1,8 +1,6 @@
-use mathlib.Core.Path.{_≡_, sym, ap, _∙_}
+use mathlib.Core.Path.{sym, ap, _∙_}
 use Rattle.block.specs.Field.{power}
 use Rattle.block.specs.Num.{num}
-use Rattle.mode.specs.Hash.{poly}
-use Rattle.mode.specs.Padding.{padded}
 use Rattle.mode.proofs.Hashes.{square-is, squared-whole, squared-part}
 use Rattle.mode.proofs.hash.square.Needs as need
 

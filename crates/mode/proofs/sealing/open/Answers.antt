@@ -1,5 +1,5 @@
 use denote.Ref.{now}
-use mathlib.Core.Path.{ap, ap₂, _∙_}
+use mathlib.Core.Path.{ap, _∙_}
 use lib.Dec.{eqb}
 use Rattle.std.specs.Options.{mapped}
 use Rattle.block.specs.Num.{num}

@@ -1,5 +1,5 @@
 use lib.Bits.{bitXor}
-use lib.ListN.{length, take, drop}
+use lib.ListN.{take, drop}
 use mathlib.Core.Path.{_≡_, ap, _∙_}
 use native.Mathlib.Omega.{arith}
 use Prim.Native.Nat.{ℕ, _+_, _*_, _-_}

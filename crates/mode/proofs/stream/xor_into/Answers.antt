@@ -1,6 +1,5 @@
 use borrow.Author.Needs.{needs}
 use mathlib.Core.Path.{_∙_}
-use native.Mathlib.Omega.{arith}
 use Rattle.mode.proofs.Streams.{done-none, done-all, byte-turn}
 use Rattle.mode.proofs.stream.xor_into.Needs as need
 
