@@ -17,7 +17,7 @@ use Rattle.seal.specs.Sizes.{sized}
 use Rattle.seal.specs.Wrapping.{given}
 use Rattle.answers.specs.Texts.{sealedText, openedText, refusedText, malformedText}
 
--- a buffer for a tag
+-- the buffer that a tag is written into
 abbrev pub noTag : List ℕ
 noTag = replicate 16 0
 
@@ -36,10 +36,10 @@ openedReply None = refusedText Mismatch
 abbrev pub unwrapReply : Scheme → ToUnwrap → List ℕ
 unwrapReply s u = cond (sized s (u .key) (u .header) (u .tag) (u .ciphertext)) (openedReply (opened s (u .key) (u .header) (given (u .tag) (u .ciphertext)))) (refusedText Size)
 
--- to a line that was read by r, or what is wrong with it
+-- `to` answers what was read; a line that is not read is answered by its number and what is wrong
 abbrev pub reply : {X : Type 0} → ℕ → (X → List ℕ) → Result X LineFault → List ℕ
-reply n r (Ok x) = r x
-reply n r (Err fault) = malformedText n fault
+reply n to (Ok x) = to x
+reply n to (Err fault) = malformedText n fault
 
 -- to the line KEY HEADER MESSAGE
 abbrev pub wrapAnswer : Scheme → ℕ → List ℕ → List ℕ
