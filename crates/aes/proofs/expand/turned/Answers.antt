@@ -1,0 +1,6 @@
+use Rattle.aes_tables.specs.Words.{word}
+use Rattle.aes.proofs.expand.turned.Needs as need
+
+pub returns : need.returns
+unfolding word
+returns c = cc
