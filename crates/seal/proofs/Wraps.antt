@@ -19,6 +19,8 @@ use Rattle.mode.specs.Sealing.{Sealed, pair, sealedBy, openedBy, sealed, opened
 use Rattle.mode.proofs.Hashes.{hash-lt}
 use Rattle.mode.proofs.Inverts.{inverses}
 use Rattle.multiplier.specs.declared.Multiplier as Multiplier
+use Rattle.seal.specs.declared.fault.SealFault.the-variants.{Size, Mismatch}
+use Rattle.seal.specs.Answers.{refusal}
 use Rattle.seal.specs.Sizes.{headerSized, buffersSized, sized}
 use Rattle.seal.specs.Wrapping.{given, accepted, left, verdict, Wrapped, Unwrapped}
 
@@ -61,7 +63,7 @@ module _ (s : Scheme) (k : List ℕ) (h : Option (List ℕ)) (t x : List ℕ) wh
   unfolding sealedBy
   wraps law all fits {t′} {x′} tag text =
       record {
-        answers = ap (λ b. cond b 0 4) (sym fits);
+        answers = ap (λ b. cond b 0 (refusal Size)) (sym fits);
         tag = tag ∙ ap (λ b. cond b (bytes 16 (sealed s k h x .tag)) t) (sym fits);
         text = text ∙ ap (λ b. cond b (sealed s k h x .text) x) (sym fits);
         opens = λ _. ap₂ (λ a b. opened s k h (pair a b)) (ap spelled tag ∙ spelled-bytes (s .enc k start) block) text ∙ inverses s k h law key .opens x;
@@ -84,8 +86,8 @@ module _ (s : Scheme) (k : List ℕ) (h : Option (List ℕ)) (t x : List ℕ) wh
     key : IsKey s k
     key = record { long = key-long fits; all = keys }
 
-    answer-past : (o : Option (List ℕ)) → opened s k h (given t x) ≡ o → verdict o ≡ cond (sized s k h t x) (verdict (opened s k h (given t x))) 4
-    answer-past o is = sym (ap₂ (λ b o. cond b (verdict o) 4) fits is)
+    answer-past : (o : Option (List ℕ)) → opened s k h (given t x) ≡ o → verdict o ≡ cond (sized s k h t x) (verdict (opened s k h (given t x))) (refusal Size)
+    answer-past o is = sym (ap₂ (λ b o. cond b (verdict o) (refusal Size)) fits is)
 
     pub unwraps : {m y : List ℕ} → opened s k h (given t x) ≡ Some m → y ≡ left (accepted s k h t x) x → Unwrapped s k h t x 0 y
     unwraps {m} {y} opens leaves =
@@ -101,7 +103,7 @@ module _ (s : Scheme) (k : List ℕ) (h : Option (List ℕ)) (t x : List ℕ) wh
           refuses = λ _ no-one. absurd (no-one m reseals);
         }
 
-    pub refuses : {y : List ℕ} → opened s k h (given t x) ≡ None → y ≡ left (accepted s k h t x) x → Unwrapped s k h t x 14 y
+    pub refuses : {y : List ℕ} → opened s k h (given t x) ≡ None → y ≡ left (accepted s k h t x) x → Unwrapped s k h t x (refusal Mismatch) y
     refuses opens leaves =
         record {
           answers = answer-past None opens;

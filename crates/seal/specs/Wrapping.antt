@@ -9,6 +9,8 @@ use Rattle.std.specs.declared.option.Option.the-variants.{Some, None}
 use Rattle.block.specs.Bytes.{spelled, bytes}
 use Rattle.cipher.specs.Scheme.{Scheme}
 use Rattle.mode.specs.Sealing.{Sealed, pair, sealed, opened}
+use Rattle.seal.specs.declared.fault.SealFault.the-variants.{Size, Mismatch}
+use Rattle.seal.specs.Answers.{refusal}
 use Rattle.seal.specs.Sizes.{sized}
 
 -- as many zeros as the list has elements
@@ -31,11 +33,11 @@ left None x = cleared x
 -- the number that opening comes to
 abbrev pub verdict : Option (List ℕ) → ℕ
 verdict (Some m) = 0
-verdict None = 14
+verdict None = refusal Mismatch
 
 -- wrap answers r, and leaves t′ in the tag buffer and x′ in the text
 pub record Wrapped (s : Scheme) (k : List ℕ) (h : Option (List ℕ)) (t x : List ℕ) (r : ℕ) (t′ x′ : List ℕ) : Type 0 where
-  pub answers : r ≡ cond (sized s k h t x) 0 4
+  pub answers : r ≡ cond (sized s k h t x) 0 (refusal Size)
   pub tag : t′ ≡ cond (sized s k h t x) (bytes 16 (sealed s k h x .tag)) t
   pub text : x′ ≡ cond (sized s k h t x) (sealed s k h x .text) x
   -- what it leaves opens to the message
@@ -43,11 +45,11 @@ pub record Wrapped (s : Scheme) (k : List ℕ) (h : Option (List ℕ)) (t x : Li
 
 -- unwrap answers r, and leaves y in the text
 pub record Unwrapped (s : Scheme) (k : List ℕ) (h : Option (List ℕ)) (t x : List ℕ) (r : ℕ) (y : List ℕ) : Type 0 where
-  pub answers : r ≡ cond (sized s k h t x) (verdict (opened s k h (given t x))) 4
+  pub answers : r ≡ cond (sized s k h t x) (verdict (opened s k h (given t x))) (refusal Size)
   pub leaves : y ≡ left (accepted s k h t x) x
   -- an accepted message seals to what was handed in, and is the only one that does
   pub reseals : r ≡ 0 → sealed s k h y ≡ given t x
   pub only : r ≡ 0 → (m : List ℕ) → sealed s k h m ≡ given t x → m ≡ y
-  -- 14 is answered exactly where no message seals to it
-  pub refused : r ≡ 14 → (m : List ℕ) → sealed s k h m ≡ given t x → ⊥
-  pub refuses : sized s k h t x ≡ true → ((m : List ℕ) → sealed s k h m ≡ given t x → ⊥) → r ≡ 14
+  -- a mismatch is answered exactly where no message seals to it
+  pub refused : r ≡ refusal Mismatch → (m : List ℕ) → sealed s k h m ≡ given t x → ⊥
+  pub refuses : sized s k h t x ≡ true → ((m : List ℕ) → sealed s k h m ≡ given t x → ⊥) → r ≡ refusal Mismatch
