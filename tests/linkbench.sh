@@ -20,7 +20,7 @@ same() {
 }
 
 # The messages of an independent sealer: ours seals to the same, opens theirs, and refuses them damaged.
-for cipher in bench; do
+for cipher in aes128 bench; do
     grep "^$cipher " "$vectors" > "$work/lines"
     for multiplier in doubling; do
         awk '{ print "accepted", $5, $6 }' "$work/lines" > "$work/expected"

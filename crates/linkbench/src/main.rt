@@ -4,6 +4,8 @@ mod answering;
 mod names;
 mod show;
 
+use aes::aes128::Aes128;
+use aes::aes128::Aes128Cipher;
 use answering::answer_lines;
 use cipher::bench::Bench;
 use cipher::bench::BenchCipher;
@@ -16,7 +18,8 @@ use names::Task;
 use std::env;
 use std::error::AnyError;
 
-const USAGE: &str = "usage: linkbench [wrap|unwrap CIPHER MULTIPLIER], with bench and doubling";
+const USAGE: &str =
+    "usage: linkbench [wrap|unwrap CIPHER MULTIPLIER], CIPHER aes128 or bench, MULTIPLIER doubling";
 
 /// Answers lines with the cipher and the multiplier that are named.
 fn answer(
@@ -26,6 +29,12 @@ fn answer(
     multiplier: MultiplierName,
 ) -> Result<(), AnyError> {
     match (cipher, multiplier) {
+        (CipherName::Aes128, MultiplierName::Doubling) => answer_lines(
+            rt,
+            task,
+            Aes128::new(),
+            Doubling::new(),
+        ),
         (CipherName::Bench, MultiplierName::Doubling) => answer_lines(
             rt,
             task,

@@ -18,12 +18,14 @@ impl Task {
 
 #[derive(Clone, Copy)]
 pub(crate) enum CipherName {
+    Aes128,
     Bench,
 }
 
 impl CipherName {
     pub(crate) fn named(name: &str) -> Option<CipherName> {
         match name {
+            "aes128" => Some(CipherName::Aes128),
             "bench" => Some(CipherName::Bench),
             _ => None,
         }

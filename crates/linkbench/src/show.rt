@@ -1,6 +1,6 @@
 // One measurement from start to end: sealed, opened again, damaged and refused.
-use cipher::bench::Bench;
-use cipher::bench::BenchCipher;
+use aes::aes128::Aes128;
+use aes::aes128::Aes128Cipher;
 use lines::hex;
 use multiplier::Doubling;
 use multiplier::DoublingMultiplier;
@@ -80,12 +80,12 @@ fn outcome(rt: &LibcRuntime, answer: Result<(), SealFault>, text: &[u8]) -> Resu
 }
 
 pub(crate) fn show(rt: &LibcRuntime) -> Result<(), AnyError> {
-    let mut cipher = Bench::new();
+    let mut cipher = Aes128::new();
     let mut multiplier = Doubling::new();
     let header = HEADER.as_bytes();
     println!(
         rt,
-        "A measurement, under the bench cipher (which hides nothing) and the doubling multiplier"
+        "A measurement, under AES-128 and the doubling multiplier"
     )?;
     field(rt, "key", &KEY)?;
     text_field(rt, "header", header)?;
