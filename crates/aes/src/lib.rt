@@ -1,4 +1,6 @@
 // AES-128, by tables on four columns.
+#![tactic(auto)]
+
 pub mod aes128;
 mod columns;
 mod decrypt;

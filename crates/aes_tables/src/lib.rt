@@ -1,4 +1,6 @@
 // Tables: the column that one byte makes, in each of its four rows.
+#![tactic(auto)]
+
 mod inv_mix;
 mod sub_mix;
 

@@ -1,4 +1,5 @@
 //! What lines that ask to wrap and to unwrap are answered.
+#![tactic(auto)]
 
 mod text;
 pub mod wrapping;

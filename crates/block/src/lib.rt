@@ -1,4 +1,6 @@
 // Blocks of sixteen bytes, and their arithmetic in the field of 2^128 elements.
+#![tactic(auto)]
+
 ghost use Rattle.std.specs.Prelude.{◌≡◌, ◌+◌, ◌*◌, ◌/◌, ◌%◌, ◌^◌, ◌==◌, bit_xor};
 ghost use Rattle.block.specs.Bytes.{bytes as spelling, spelled};
 ghost use Rattle.block.specs.Field.{double, product};

@@ -1,4 +1,5 @@
 // Wrap and unwrap, run: the worked cases, the sizes at the limits, and what each refusal leaves.
+#![tactic(auto)]
 
 #[cfg(test)]
 mod tests {

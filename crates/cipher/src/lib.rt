@@ -1,4 +1,6 @@
 // Block ciphers, by what they mean.
+#![tactic(auto)]
+
 pub mod bench;
 pub mod whitened;
 

@@ -1,4 +1,6 @@
 // The substitutions of bytes of FIPS 197, and what is proved of its cipher.
+#![tactic(auto)]
+
 mod inv_sbox;
 mod sbox;
 

@@ -1,4 +1,6 @@
 // Ciphers on halves of a block, by what they mean.
+#![tactic(auto)]
+
 pub mod speck;
 mod words;
 pub mod xtea;

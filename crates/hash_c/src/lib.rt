@@ -1,4 +1,6 @@
 // The hash alone, over each multiplier, for measuring one against the other.
+#![tactic(auto)]
+
 ghost use Rattle.hash_c.specs.Hashing.{Hashed};
 ghost use Rattle.std.specs.Option.{option_map};
 ghost use Rattle.std.specs.Prelude.{◌≡◌, None};

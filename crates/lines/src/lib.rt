@@ -1,4 +1,5 @@
 //! The lines that messages to wrap and to unwrap are written on: bytes in hex, fields at blanks.
+#![tactic(auto)]
 
 pub mod fault;
 pub mod hex;

@@ -1,5 +1,7 @@
 // The link on the bench. With no argument: one measurement from start to end. With `wrap` or `unwrap`, a cipher and a
 // multiplier: lines from standard input, each answered by a line. With `fields` and a telegram in hex: its parts.
+#![tactic(auto)]
+
 mod answering;
 mod fields;
 mod names;

@@ -1,4 +1,6 @@
 // The HBS mode of deterministic authenticated encryption, over every cipher and multiplier.
+#![tactic(auto)]
+
 pub mod hash;
 mod padding;
 pub mod sealing;

@@ -1,4 +1,6 @@
 // Multiplication in the field by one element that is held.
+#![tactic(auto)]
+
 pub mod table;
 
 ghost use Rattle.std.specs.Prelude.{◌≡◌, ℕ};

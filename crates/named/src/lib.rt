@@ -1,4 +1,6 @@
 // Ciphers and multipliers by their names, for programs that are told which to take.
+#![tactic(auto)]
+
 pub mod cipher_name;
 pub mod multiplier_name;
 pub mod task;

@@ -1,5 +1,7 @@
 // Works the vectors of the ciphers and of the mode, published ones and others made by an independent program, and
 // compares. It prints how many came out as expected, kind by kind, and names each line that did not.
+#![tactic(auto)]
+
 mod blocks;
 mod messages;
 mod piles;

@@ -1,4 +1,6 @@
 // Wrapping and unwrapping of one message in place.
+#![tactic(auto)]
+
 pub mod fault;
 pub mod sizes;
 pub mod watch;

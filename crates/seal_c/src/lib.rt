@@ -1,4 +1,6 @@
 // Wrap and unwrap over AES-128, for C: buffers as pointers with lengths, and a refusal's number as the answer.
+#![tactic(auto)]
+
 ghost use Rattle.aes.specs.Scheme.{aes128};
 ghost use Rattle.seal.specs.Answers.{answered};
 ghost use Rattle.seal.specs.Wrapping.{Unwrapped, Wrapped};

@@ -1,4 +1,6 @@
 // A station, which seals and opens telegrams.
+#![tactic(auto)]
+
 mod admission;
 mod counting;
 pub mod declining;

@@ -1,4 +1,5 @@
 // A station, run: the known telegram, both ends of a line, what is reported, and refusals with what they leave.
+#![tactic(auto)]
 
 #[cfg(test)]
 mod tests {

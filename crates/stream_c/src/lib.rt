@@ -1,4 +1,6 @@
 // The counter stream of AES-128 alone, for measuring it against AES in C.
+#![tactic(auto)]
+
 ghost use Rattle.aes.specs.Scheme.{aes128};
 ghost use Rattle.mode.specs.Stream.{streamed};
 ghost use Rattle.std.specs.Prelude.{eqb, length, cond, ◌≡◌};

@@ -1,4 +1,6 @@
 // Telegrams: the frame around a sealed message, and the header that stands in it.
+#![tactic(auto)]
+
 ghost use Rattle.telegram.specs.Theorems.{FormatLaws};
 
 pub mod fault;

@@ -1,4 +1,5 @@
 // Telegrams, run: one that is known, cut short, damaged and at the limits, and frames written and read again.
+#![tactic(auto)]
 
 #[cfg(test)]
 mod tests {

@@ -1,4 +1,5 @@
 //! What is told of a telegram, one part to a line.
+#![tactic(auto)]
 
 ghost use Rattle.std.specs.Prelude.{◌≡◌, IfOk, string_bytes};
 ghost use Rattle.telegram.specs.Calls.{parts_of};

@@ -1,5 +1,7 @@
 // Vectors of the ciphers, published ones and others made by an independent program. Each line of standard input is
 // `CIPHER KEY BLOCK ENCIPHERED`; it is worked in both directions, and answered by a line that says what came of it.
+#![tactic(auto)]
+
 use aes::aes128::Aes128;
 use anyhow::{Context, anyhow};
 use block::Block;

@@ -1,4 +1,6 @@
 // A block cipher from a half cipher, by six rounds of Feistel's.
+#![tactic(auto)]
+
 ghost use Rattle.std.specs.Prelude.{◌*◌, ◌+◌, ◌<◌, replicate, ◌≡◌};
 ghost use Rattle.block.specs.Num.{num};
 ghost use Rattle.wide.specs.Wide.{mixed, round, subkey, unround, wide};
