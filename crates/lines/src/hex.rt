@@ -34,7 +34,7 @@ fn byte(high: u8, low: u8) -> Option<u8>
 pub fn decode(heap: Global, field: Field, text: &[u8]) -> Result<Vec<u8>, LineFault>
     ensures { Answers vec_items result (reading field text.now) }
 {
-    if text == b"." {
+    if text == b".".as_slice() {
         return Ok(Vec::new(heap));
     }
     if text.len() % 2 != 0 {

@@ -74,7 +74,7 @@ impl UnwrapRequest {
 fn decode_header(heap: Global, text: &[u8]) -> Result<Option<Vec<u8>>, LineFault>
     ensures { Answers (option_map vec_items) result (header_reading text.now) }
 {
-    if text == b"absent" {
+    if text == b"absent".as_slice() {
         return Ok(None);
     }
     Ok(Some(hex::decode(heap, Field::Header, text)?))

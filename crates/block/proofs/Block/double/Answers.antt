@@ -4,5 +4,5 @@ use Rattle.block.proofs.Block.double.Goals as goal
 
 pub returns : goal.returns
 returns c =
-    words-double c.args.self.hi c.args.self.lo c.wrapping-neg-mask.result (search rules) (search rules) (search rules)
-    c.wrapping-neg-mask.ensures
+    words-double c.args.self.hi c.args.self.lo c.wrapping_neg-mask.result (search rules) (search rules) (search rules)
+    c.wrapping_neg-mask.ensures

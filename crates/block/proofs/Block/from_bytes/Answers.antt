@@ -5,4 +5,4 @@ use Rattle.block.proofs.Block.from_bytes.Goals as goal
 
 pub returns : goal.returns
 unfolding spelled after
-returns c = omega (arith, c.from-be-bytes.ensures, c.from-be-bytes-2.ensures) ∙ sym (spelled_16 c.args.bytes (search rules))
+returns c = omega (arith, c.from_be_bytes.ensures, c.from_be_bytes-2.ensures) ∙ sym (spelled_16 c.args.bytes (search rules))

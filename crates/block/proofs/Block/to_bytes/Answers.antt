@@ -4,4 +4,4 @@ use Rattle.block.proofs.Block.to_bytes.Goals as goal
 
 pub returns : goal.returns
 returns c =
-    simp (c.to-be-bytes.ensures, c.to-be-bytes-2.ensures) (bytes_16 c.args.self.hi c.args.self.lo (search rules) (search rules))
+    simp (c.to_be_bytes.ensures, c.to_be_bytes-2.ensures) (bytes_16 c.args.self.hi c.args.self.lo (search rules) (search rules))

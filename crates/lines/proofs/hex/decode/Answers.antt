@@ -23,6 +23,6 @@ loop-rest-preserved c =
     let rest = c.loop-rest.rest.now in
     let two : 2 ≤ length rest = search rules in (
       pairs_more (vec_items c.loop-rest.bytes) (vec_items c.push.new.self) c.in-Some.b rest c.args.text.now two
-          (sym c.byte.ensures ∙ c.in-Some.is) c.in-ok-push.ensures.items c.loop-rest.invariant.0,
+          (sym c.byte.ensures ∙ c.in-Some.is) c.in_ok-push.ensures.items c.loop-rest.invariant.0,
       simp (take_rest, length-drop) (omega arith),
     )

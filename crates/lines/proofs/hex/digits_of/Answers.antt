@@ -9,8 +9,8 @@ pub loop-b-preserved : goal.loop-b-preserved
 loop-b-preserved c =
     let i = c.loop-b.b-index in
     let bytes = c.args.bytes.now in
-    let high = c.in-ok-push.ensures in
-    let low = c.in-ok-push-2.ensures in
+    let high = c.in_ok-push.ensures in
+    let low = c.in_ok-push-2.ensures in
     let a = c.symbol in
     let b = c.symbol-in-loop-b in
     digits_more (string_bytes c.loop-b.text) (string_bytes c.push.new.self) (string_bytes c.push-in-loop-b.new.self)

@@ -9,6 +9,6 @@ returns-then-is-empty c =
 
 pub returns : goal.returns
 returns c =
-    let s = c.skip-blanks-text.result.now in
-    fields_first c.args.text.now s c.split-at.result.0.now c.split-at.result.1.now c.skip-blanks-text.ensures (false-eqb _ 0 c.if-is-empty.ensures)
-    (c.split-at.ensures.front ∙ c.word-len.ensures.front) (c.split-at.ensures.back ∙ c.word-len.ensures.rest)
+    let s = c.skip_blanks-text.result.now in
+    fields_first c.args.text.now s c.split_at.result.0.now c.split_at.result.1.now c.skip_blanks-text.ensures (false-eqb _ 0 c.if-is-empty.ensures)
+    (c.split_at.ensures.front ∙ c.word-len.ensures.front) (c.split_at.ensures.back ∙ c.word-len.ensures.rest)

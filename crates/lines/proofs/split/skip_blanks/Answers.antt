@@ -3,7 +3,7 @@ use Rattle.lines.proofs.Splitting.{skipped_more, skipped_none}
 use Rattle.lines.proofs.split.skip_blanks.Goals as goal
 
 pub loop-rest-preserved : goal.loop-rest-preserved
-loop-rest-preserved c = skipped_more c.loop-rest.rest.now (search rules) (sym c.if-not-is-blank.ensures) ∙ c.loop-rest.invariant
+loop-rest-preserved c = skipped_more c.loop-rest.rest.now (search rules) (sym c.if-not-is_blank.ensures) ∙ c.loop-rest.invariant
 
 pub returns-in-default : goal.returns-in-default
 returns-in-default c = sym (skipped_none c.loop-rest.rest.now (search rules)) ∙ c.loop-rest.invariant

@@ -8,7 +8,7 @@ returns-then-is-blank c =
     record { within = omega arith; front = e.front; rest = e.rest }
 
 pub loop-i-preserved : goal.loop-i-preserved
-loop-i-preserved c = passed_more c.args.text.now c.loop-i.i c.loop-i-test.true (sym c.if-is-blank.ensures) c.loop-i.invariant
+loop-i-preserved c = passed_more c.args.text.now c.loop-i.i c.loop-i-test.true (sym c.if-is_blank.ensures) c.loop-i.invariant
 
 pub returns : goal.returns
 returns c =
