@@ -22,8 +22,8 @@ pub fn answer_wrap<C: Cipher, M: Multiplier>(
     number: u64,
     line: &[u8],
 ) -> Result<String, AllocError>
-    ensures answers { IfOk result (λ t. string_bytes t ≡ wrap_answer (scheme cipher.old) number line.now) }
-    ensures scheme { scheme cipher.new ≡ scheme cipher.old }
+    ensures answers { IfOk result (λ t. string_bytes t ≡ wrap_answer (C.scheme cipher.old) number line.now) }
+    ensures scheme { C.scheme cipher.new ≡ C.scheme cipher.old }
 {
     match WrapRequest::parse(heap, line) {
         Ok(request) => reply_wrap(heap, cipher, multiplier, request),
@@ -42,8 +42,8 @@ pub fn answer_unwrap<C: Cipher, M: Multiplier>(
     number: u64,
     line: &[u8],
 ) -> Result<String, AllocError>
-    ensures answers { IfOk result (λ t. string_bytes t ≡ unwrap_answer (scheme cipher.old) number line.now) }
-    ensures scheme { scheme cipher.new ≡ scheme cipher.old }
+    ensures answers { IfOk result (λ t. string_bytes t ≡ unwrap_answer (C.scheme cipher.old) number line.now) }
+    ensures scheme { C.scheme cipher.new ≡ C.scheme cipher.old }
 {
     match UnwrapRequest::parse(heap, line) {
         Ok(request) => reply_unwrap(heap, cipher, multiplier, request),
@@ -59,8 +59,8 @@ fn reply_wrap<C: Cipher, M: Multiplier>(
     multiplier: &mut M,
     request: WrapRequest,
 ) -> Result<String, AllocError>
-    ensures answers { IfOk result (λ t. string_bytes t ≡ wrap_reply (scheme cipher.old) (to_wrap request)) }
-    ensures scheme { scheme cipher.new ≡ scheme cipher.old }
+    ensures answers { IfOk result (λ t. string_bytes t ≡ wrap_reply (C.scheme cipher.old) (to_wrap request)) }
+    ensures scheme { C.scheme cipher.new ≡ C.scheme cipher.old }
 {
     let WrapRequest {
         key,
@@ -88,8 +88,8 @@ fn reply_unwrap<C: Cipher, M: Multiplier>(
     multiplier: &mut M,
     request: UnwrapRequest,
 ) -> Result<String, AllocError>
-    ensures answers { IfOk result (λ t. string_bytes t ≡ unwrap_reply (scheme cipher.old) (to_unwrap request)) }
-    ensures scheme { scheme cipher.new ≡ scheme cipher.old }
+    ensures answers { IfOk result (λ t. string_bytes t ≡ unwrap_reply (C.scheme cipher.old) (to_unwrap request)) }
+    ensures scheme { C.scheme cipher.new ≡ C.scheme cipher.old }
 {
     let UnwrapRequest {
         key,

@@ -11,7 +11,7 @@ use multiplier::Multiplier;
 
 /// The polynomial of a string's padded blocks, by Horner's rule.
 fn polynomial<M: Multiplier>(multiplier: &M, text: &[u8]) -> Block
-    ensures { num result ≡ poly (element multiplier.now) (padded text.now) }
+    ensures { num result ≡ poly (M.element multiplier.now) (padded text.now) }
 {
     let mut sum = Block::ONE;
     for i in 0..padded_len(text) {
@@ -22,7 +22,7 @@ fn polynomial<M: Multiplier>(multiplier: &M, text: &[u8]) -> Block
 
 /// The square of a string's polynomial, times the factor of its padding.
 fn square<M: Multiplier>(multiplier: &M, text: &[u8]) -> Block
-    ensures { num result ≡ squared (element multiplier.now) text.now }
+    ensures { num result ≡ squared (M.element multiplier.now) text.now }
 {
     let z = polynomial(multiplier, text);
     let square = z.product(z);
@@ -35,7 +35,7 @@ fn square<M: Multiplier>(multiplier: &M, text: &[u8]) -> Block
 
 /// What a header brings: an absent one nothing.
 fn header_square<M: Multiplier>(multiplier: &M, header: Option<&[u8]>) -> Block
-    ensures { num result ≡ header_squared (element multiplier.now) (option_map (λ x. x.now) header.entry) }
+    ensures { num result ≡ header_squared (M.element multiplier.now) (option_map (λ x. x.now) header.entry) }
 {
     match header {
         Some(header) => square(multiplier, header),
@@ -45,7 +45,7 @@ fn header_square<M: Multiplier>(multiplier: &M, header: Option<&[u8]>) -> Block
 
 /// The hash of a header, which may be absent, and a message, under the element held.
 pub fn hash<M: Multiplier>(multiplier: &M, header: Option<&[u8]>, message: &[u8]) -> Block
-    ensures { num result ≡ hashed (element multiplier.now) (option_map (λ x. x.now) header.entry) message.now }
+    ensures { num result ≡ hashed (M.element multiplier.now) (option_map (λ x. x.now) header.entry) message.now }
 {
     let of_message = multiplier.times(square(multiplier, message));
     multiplier.times(header_square(multiplier, header) ^ of_message)

@@ -15,7 +15,7 @@ use multiplier::Multiplier;
 /// Loads a key, and with it the hash key, which is the zero block enciphered. A key of another length is
 /// answered no, and alters nothing.
 pub fn load_key<C: Cipher, M: Multiplier>(cipher: &mut C, multiplier: &mut M, key: &[u8]) -> bool
-    ensures fits { result ≡ (length key.now == (scheme cipher.old).key_len) }
+    ensures fits { result ≡ (length key.now == (C.scheme cipher.old).key_len) }
     ensures keys { Keyed C.Cipher M.Multiplier result key.now cipher.old multiplier.old cipher.new multiplier.new }
 {
     if !cipher.load(key) {
@@ -32,7 +32,7 @@ pub fn seal<C: Cipher, M: Multiplier>(
     header: Option<&[u8]>,
     text: &mut [u8],
 ) -> Block
-    ensures { pair (num result) text.new ≡ sealed_by (element multiplier.now) ((scheme cipher.now).enc (loaded cipher.now)) (option_map (λ x. x.now) header.entry) text.old }
+    ensures { pair (num result) text.new ≡ sealed_by (M.element multiplier.now) ((C.scheme cipher.now).enc (C.loaded cipher.now)) (option_map (λ x. x.now) header.entry) text.old }
 {
     let start = hash(multiplier, header, text);
     apply_stream(cipher, start, text);
@@ -48,8 +48,8 @@ pub fn open<C: Cipher, M: Multiplier>(
     tag: Block,
     text: &mut [u8],
 ) -> bool
-    ensures opens { (if result then Some text.new else None) ≡ opened_by (element multiplier.now) ((scheme cipher.now).enc (loaded cipher.now)) ((scheme cipher.now).dec (loaded cipher.now)) (option_map (λ x. x.now) header.entry) (pair (num tag) text.old) }
-    ensures leaves { text.new ≡ streamed ((scheme cipher.now).enc (loaded cipher.now)) ((scheme cipher.now).dec (loaded cipher.now) (num tag)) text.old }
+    ensures opens { (if result then Some text.new else None) ≡ opened_by (M.element multiplier.now) ((C.scheme cipher.now).enc (C.loaded cipher.now)) ((C.scheme cipher.now).dec (C.loaded cipher.now)) (option_map (λ x. x.now) header.entry) (pair (num tag) text.old) }
+    ensures leaves { text.new ≡ streamed ((C.scheme cipher.now).enc (C.loaded cipher.now)) ((C.scheme cipher.now).dec (C.loaded cipher.now) (num tag)) text.old }
 {
     let start = cipher.decipher(tag);
     apply_stream(cipher, start, text);

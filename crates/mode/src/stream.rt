@@ -26,7 +26,7 @@ fn counter(start: Block, i: usize) -> Block
 
 /// XORs `text` with the stream that starts from `start`.
 pub fn apply_stream<C: Cipher>(cipher: &C, start: Block, text: &mut [u8])
-    ensures { text.new ≡ streamed ((scheme cipher.now).enc (loaded cipher.now)) (num start) text.old }
+    ensures { text.new ≡ streamed ((C.scheme cipher.now).enc (C.loaded cipher.now)) (num start) text.old }
 {
     let n = text.len();
     for i in 0..n.div_ceil(16) {

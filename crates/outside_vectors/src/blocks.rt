@@ -36,7 +36,7 @@ impl Task for BlockVector {
 }
 
 fn half_agrees<H: HalfCipher>(cipher: &H, key: &HalfKey, half: u64, enciphered: u64) -> bool
-    ensures { result ≡ agrees_half (maps cipher.now) key.now half enciphered }
+    ensures { result ≡ agrees_half (H.maps cipher.now) key.now half enciphered }
 {
     cipher.forward(key, half) == enciphered && cipher.backward(key, enciphered) == half
 }

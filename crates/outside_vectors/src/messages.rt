@@ -47,8 +47,8 @@ fn seals<C: Cipher, M: Multiplier>(
     multiplier: &mut M,
     exchange: &Exchange,
 ) -> Result<bool, AllocError>
-    ensures answers { IfOk result (λ same. same ≡ true → wrap_answer (scheme cipher.old) 1 (string_bytes exchange.now.line) ≡ string_bytes exchange.now.answer) }
-    ensures scheme { scheme cipher.new ≡ scheme cipher.old }
+    ensures answers { IfOk result (λ same. same ≡ true → wrap_answer (C.scheme cipher.old) 1 (string_bytes exchange.now.line) ≡ string_bytes exchange.now.answer) }
+    ensures scheme { C.scheme cipher.new ≡ C.scheme cipher.old }
 {
     let answer = answer_wrap(heap, cipher, multiplier, 1, exchange.line.as_bytes())?;
     Ok(answer.as_str() == exchange.answer.as_str())
@@ -61,8 +61,8 @@ fn opens<C: Cipher, M: Multiplier>(
     multiplier: &mut M,
     exchange: &Exchange,
 ) -> Result<bool, AllocError>
-    ensures answers { IfOk result (λ same. same ≡ true → unwrap_answer (scheme cipher.old) 1 (string_bytes exchange.now.line) ≡ string_bytes exchange.now.answer) }
-    ensures scheme { scheme cipher.new ≡ scheme cipher.old }
+    ensures answers { IfOk result (λ same. same ≡ true → unwrap_answer (C.scheme cipher.old) 1 (string_bytes exchange.now.line) ≡ string_bytes exchange.now.answer) }
+    ensures scheme { C.scheme cipher.new ≡ C.scheme cipher.old }
 {
     let answer = answer_unwrap(heap, cipher, multiplier, 1, exchange.line.as_bytes())?;
     Ok(answer.as_str() == exchange.answer.as_str())
@@ -74,8 +74,8 @@ fn agrees<C: Cipher, M: Multiplier>(
     multiplier: &mut M,
     vector: &MessageVector,
 ) -> Result<bool, AllocError>
-    ensures answers { IfOk result (λ same. same ≡ true → Holds (scheme cipher.old) vector.now) }
-    ensures scheme { scheme cipher.new ≡ scheme cipher.old }
+    ensures answers { IfOk result (λ same. same ≡ true → Holds (C.scheme cipher.old) vector.now) }
+    ensures scheme { C.scheme cipher.new ≡ C.scheme cipher.old }
 {
     let sealed = seals(vector.heap, cipher, multiplier, &vector.sealed)?;
     let opened = opens(vector.heap, cipher, multiplier, &vector.opened)?;

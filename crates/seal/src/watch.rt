@@ -50,7 +50,7 @@ impl Watch<'_> {
         header: Option<&[u8]>,
         tag: Block,
     ) -> bool
-        ensures opens { (if result then Some self.new.bytes.now else None) ≡ opened_by (element multiplier.now) ((scheme cipher.now).enc (loaded cipher.now)) ((scheme cipher.now).dec (loaded cipher.now)) (option_map (λ x. x.now) header.entry) (pair (num tag) self.old.bytes.now) }
+        ensures opens { (if result then Some self.new.bytes.now else None) ≡ opened_by (M.element multiplier.now) ((C.scheme cipher.now).enc (C.loaded cipher.now)) ((C.scheme cipher.now).dec (C.loaded cipher.now)) (option_map (λ x. x.now) header.entry) (pair (num tag) self.old.bytes.now) }
         ensures releases { self.new.released ≡ result }
         ensures same { self.new.bytes.ghost_name ≡ self.old.bytes.ghost_name }
     {
@@ -78,8 +78,8 @@ impl Watch<'_> {
         start: usize,
         end: usize,
     ) -> bool
-        ensures opens { (if result then Some self.new.bytes.now else None) ≡ part_opened start end (opened_by (element multiplier.now) ((scheme cipher.now).enc (loaded cipher.now)) ((scheme cipher.now).dec (loaded cipher.now)) (Some header.now) (pair (num tag) (between start end self.old.bytes.now))) self.old.bytes.now }
-        ensures leaves { self.new.bytes.now ≡ part_mapped start end (streamed ((scheme cipher.now).enc (loaded cipher.now)) ((scheme cipher.now).dec (loaded cipher.now) (num tag))) self.old.bytes.now }
+        ensures opens { (if result then Some self.new.bytes.now else None) ≡ part_opened start end (opened_by (M.element multiplier.now) ((C.scheme cipher.now).enc (C.loaded cipher.now)) ((C.scheme cipher.now).dec (C.loaded cipher.now)) (Some header.now) (pair (num tag) (between start end self.old.bytes.now))) self.old.bytes.now }
+        ensures leaves { self.new.bytes.now ≡ part_mapped start end (streamed ((C.scheme cipher.now).enc (C.loaded cipher.now)) ((C.scheme cipher.now).dec (C.loaded cipher.now) (num tag))) self.old.bytes.now }
         ensures len { length self.new.bytes.now ≡ length self.old.bytes.now }
         ensures holds { self.new.released ≡ self.old.released }
         ensures same { self.new.bytes.ghost_name ≡ self.old.bytes.ghost_name }

@@ -25,8 +25,8 @@ pub fn wrap<C: Cipher, M: Multiplier>(
     tag: &mut [u8],
     text: &mut [u8],
 ) -> Result<(), SealFault>
-    ensures seals { Wrapped (scheme cipher.old) key.now (option_map (λ x. x.now) header.entry) tag.old text.old (answered result) tag.new text.new }
-    ensures keys { Keyed C.Cipher M.Multiplier (sized (scheme cipher.old) key.now (option_map (λ x. x.now) header.entry) tag.old text.old) key.now cipher.old multiplier.old cipher.new multiplier.new }
+    ensures seals { Wrapped (C.scheme cipher.old) key.now (option_map (λ x. x.now) header.entry) tag.old text.old (answered result) tag.new text.new }
+    ensures keys { Keyed C.Cipher M.Multiplier (sized (C.scheme cipher.old) key.now (option_map (λ x. x.now) header.entry) tag.old text.old) key.now cipher.old multiplier.old cipher.new multiplier.new }
 {
     if !buffers_fit(header, tag, text) {
         return Err(SealFault::Size);
@@ -51,8 +51,8 @@ pub fn unwrap<C: Cipher, M: Multiplier>(
     tag: &[u8],
     text: &mut [u8],
 ) -> Result<(), SealFault>
-    ensures opens { Unwrapped (scheme cipher.old) key.now (option_map (λ x. x.now) header.entry) tag.now text.old (answered result) text.new }
-    ensures keys { Keyed C.Cipher M.Multiplier (sized (scheme cipher.old) key.now (option_map (λ x. x.now) header.entry) tag.now text.old) key.now cipher.old multiplier.old cipher.new multiplier.new }
+    ensures opens { Unwrapped (C.scheme cipher.old) key.now (option_map (λ x. x.now) header.entry) tag.now text.old (answered result) text.new }
+    ensures keys { Keyed C.Cipher M.Multiplier (sized (C.scheme cipher.old) key.now (option_map (λ x. x.now) header.entry) tag.now text.old) key.now cipher.old multiplier.old cipher.new multiplier.new }
 {
     let mut watch = Watch {
         bytes: text,

@@ -46,7 +46,7 @@ impl<H: HalfCipher> Wide<H> {
     /// What round `i` makes of a half.
     fn mixed(&self, i: usize, half: u64) -> u64
         requires { i < 6 }
-        ensures { result ≡ mixed (maps self.now.half_cipher).forward self.now.key i half }
+        ensures { result ≡ mixed (H.maps self.now.half_cipher).forward self.now.key i half }
     {
         let even = self.half_key(2 * i);
         let odd = self.half_key(2 * i + 1);
@@ -55,7 +55,7 @@ impl<H: HalfCipher> Wide<H> {
 
     fn round(&self, i: usize, halves: Halves) -> Halves
         requires { i < 6 }
-        ensures { result ≡ round (maps self.now.half_cipher).forward self.now.key i halves }
+        ensures { result ≡ round (H.maps self.now.half_cipher).forward self.now.key i halves }
     {
         let (a, b) = halves;
         (b, a ^ self.mixed(i, b))
@@ -63,7 +63,7 @@ impl<H: HalfCipher> Wide<H> {
 
     fn undo_round(&self, i: usize, halves: Halves) -> Halves
         requires { i < 6 }
-        ensures { result ≡ unround (maps self.now.half_cipher).forward self.now.key i halves }
+        ensures { result ≡ unround (H.maps self.now.half_cipher).forward self.now.key i halves }
     {
         let (a, b) = halves;
         (b ^ self.mixed(i, a), a)

@@ -11,4 +11,4 @@ turn x = bit_or (x / 2 ^ 8) (x * 2 ^ 24 % 2 ^ 32)
 
 pub returns : goal.returns
 unfolding turn xtime times mul word spread
-returns c = c.rotate-right.ensures ∙ ap turn c.inv-mix-0.ensures ∙ same (λ a. turn (spread 14 9 13 11 a)) (spread 11 14 9 13) tt c.args.a (omega arith)
+returns c = c.rotate_right.ensures ∙ ap turn c.inv_mix_0.ensures ∙ same (λ a. turn (spread 14 9 13 11 a)) (spread 11 14 9 13) tt c.args.a (omega arith)

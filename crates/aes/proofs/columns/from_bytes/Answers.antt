@@ -9,4 +9,4 @@ pub returns : goal.returns
 unfolding word
 returns c =
     let b : IsState c.args.bytes = record { long = search rules; all = λ k h. search rules } in
-    ap unpack (λ i. c.from-be-bytes.ensures i ∷ c.from-be-bytes-2.ensures i ∷ c.from-be-bytes-3.ensures i ∷ c.from-be-bytes-4.ensures i ∷ []) ∙ words_are c.args.bytes b
+    ap unpack (λ i. c.from_be_bytes.ensures i ∷ c.from_be_bytes-2.ensures i ∷ c.from_be_bytes-3.ensures i ∷ c.from_be_bytes-4.ensures i ∷ []) ∙ words_are c.args.bytes b

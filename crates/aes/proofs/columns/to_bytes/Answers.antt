@@ -4,4 +4,4 @@ use Rattle.aes.proofs.columns.to_bytes.Goals as goal
 
 pub returns : goal.returns
 unfolding unpack byte_at
-returns c = simp (c.to-be-bytes.ensures, c.to-be-bytes-2.ensures, c.to-be-bytes-3.ensures, c.to-be-bytes-4.ensures, div-one)
+returns c = simp (c.to_be_bytes.ensures, c.to_be_bytes-2.ensures, c.to_be_bytes-3.ensures, c.to_be_bytes-4.ensures, div-one)

@@ -15,9 +15,9 @@ loop-i-preserved c = (
       let w = c.args.w.now in
       let i : ℕ = c.loop-i.i - 1 in
       let before : c.loop-i.i ≡ i + 1 = omega arith in
-      inv_next w i s c.loop-i.t c.inv-mix-u.result (omega arith)
+      inv_next w i s c.loop-i.t c.inv_mix-u.result (omega arith)
       (c.loop-i.invariant.1 s h ∙ ap (λ (n : ℕ). inv_rounds (drop n (map unpack w)) s) before)
-      (c.inv-mix-u.ensures ∙ ap inv_mix_columns c.inv-turn.ensures),
+      (c.inv_mix-u.ensures ∙ ap inv_mix_columns c.inv_turn.ensures),
 )
 
 pub returns : goal.returns
@@ -25,7 +25,7 @@ returns c =
     let w = c.args.w.now in
     let s = unpack c.args.s in
     let end : c.loop-i.i ≡ 1 = omega arith in
-    inv_last w s c.loop-i.t c.inv-turn-2.result (omega arith)
-    (c.loop-i.invariant.1 s (inv_first w 10 c.args.s c.add-key-t.result (omega arith) c.add-key-t.ensures)
+    inv_last w s c.loop-i.t c.inv_turn-2.result (omega arith)
+    (c.loop-i.invariant.1 s (inv_first w 10 c.args.s c.add_key-t.result (omega arith) c.add_key-t.ensures)
     ∙ ap (λ (n : ℕ). inv_rounds (drop n (map unpack w)) s) end)
-    c.inv-turn-2.ensures
+    c.inv_turn-2.ensures

@@ -7,5 +7,5 @@ use Rattle.aes.proofs.decrypt.inv_mix.Goals as goal
 pub returns : goal.returns
 unfolding unpack inv_mix_columns
 returns c =
-    ap unpack (λ i. c.inv-mixed.ensures i ∷ c.inv-mixed-2.ensures i ∷ c.inv-mixed-3.ensures i ∷ c.inv-mixed-4.ensures i ∷ [])
+    ap unpack (λ i. c.inv_mixed.ensures i ∷ c.inv_mixed-2.ensures i ∷ c.inv_mixed-3.ensures i ∷ c.inv_mixed-4.ensures i ∷ [])
     ∙ mixes_are 14 11 13 9 (unpack c.args.s) (unpack_state c.args.s)

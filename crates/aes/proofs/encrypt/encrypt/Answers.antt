@@ -18,4 +18,4 @@ returns c =
     let end : 10 ≡ c.loop-i.i = omega arith in
     last w 10 t _ (omega arith) (search rules)
     ∙ ap (λ (n : ℕ). rounds (drop n (map unpack w)) (unpack t)) end ∙ c.loop-i.invariant
-    ∙ first w c.args.s c.add-key-t.result (omega arith) c.add-key-t.ensures
+    ∙ first w c.args.s c.add_key-t.result (omega arith) c.add_key-t.ensures

@@ -10,5 +10,5 @@ unfolding unpack sub_bytes shift_rows
 returns c =
     let w = c.args.w.now in
     let s = c.args.s in
-    ap unpack (λ i. bit_xor (c.plain-column.ensures i) (get_or w 0 0) ∷ bit_xor (c.plain-column-2.ensures i) (get_or w 1 0) ∷ bit_xor (c.plain-column-3.ensures i) (get_or w 2 0) ∷ bit_xor (c.plain-column-4.ensures i) (get_or w 3 0) ∷ [])
+    ap unpack (λ i. bit_xor (c.plain_column.ensures i) (get_or w 0 0) ∷ bit_xor (c.plain_column-2.ensures i) (get_or w 1 0) ∷ bit_xor (c.plain_column-3.ensures i) (get_or w 2 0) ∷ bit_xor (c.plain_column-4.ensures i) (get_or w 3 0) ∷ [])
     ∙ plain_round w (shift_rows (sub_bytes (unpack s))) (forth_state s)

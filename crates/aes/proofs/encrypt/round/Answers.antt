@@ -10,5 +10,5 @@ unfolding unpack sub_bytes shift_rows mix_columns
 returns c =
     let w = c.args.w.now in
     let s = c.args.s in
-    ap unpack (λ i. bit_xor (c.mixed-column.ensures i) (get_or w 0 0) ∷ bit_xor (c.mixed-column-2.ensures i) (get_or w 1 0) ∷ bit_xor (c.mixed-column-3.ensures i) (get_or w 2 0) ∷ bit_xor (c.mixed-column-4.ensures i) (get_or w 3 0) ∷ [])
+    ap unpack (λ i. bit_xor (c.mixed_column.ensures i) (get_or w 0 0) ∷ bit_xor (c.mixed_column-2.ensures i) (get_or w 1 0) ∷ bit_xor (c.mixed_column-3.ensures i) (get_or w 2 0) ∷ bit_xor (c.mixed_column-4.ensures i) (get_or w 3 0) ∷ [])
     ∙ mixed-round 2 3 1 1 w (shift_rows (sub_bytes (unpack s))) (forth_state s)

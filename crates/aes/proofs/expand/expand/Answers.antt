@@ -12,7 +12,7 @@ pub loop-i-preserved : goal.loop-i-preserved
 loop-i-preserved c =
     let keys = c.loop-i.keys in
     let i = c.loop-i.i in
-    let y = c.next-key.result in
+    let y = c.next_key.result in
     let l : length (map unpack keys) ≡ 11 = length-map keys unpack ∙ c.loop-i.invariant.0 in
     let g = get_or-map unpack keys i [] [] (omega arith) in (
       length-set keys (i + 1) y ∙ c.loop-i.invariant.0,
@@ -25,4 +25,4 @@ unfolding round_keys_of
 returns c =
     let keys = c.loop-i.keys in
     let l : length (map unpack keys) ≡ 11 = length-map keys unpack ∙ c.loop-i.invariant.0 in
-    sym (expand_all (map unpack keys) c.loop-i.i c.loop-i.rcon l (omega arith)) ∙ c.loop-i.invariant.1 ∙ ap (expand 10 1) c.from-bytes-keys.ensures
+    sym (expand_all (map unpack keys) c.loop-i.i c.loop-i.rcon l (omega arith)) ∙ c.loop-i.invariant.1 ∙ ap (expand 10 1) c.from_bytes-keys.ensures

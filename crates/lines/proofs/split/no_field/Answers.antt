@@ -2,8 +2,8 @@ use Rattle.std.proofs.Common.{refl, true-eqb, false-eqb}
 use Rattle.lines.proofs.Splitting.{fields_some, fields_none}
 use Rattle.lines.proofs.split.no_field.Goals as goal
 
-pub returns-then-is-empty : goal.returns-then-is-empty
-returns-then-is-empty c = fields_none c.args.text.now c.skip-blanks.result.now c.skip-blanks.ensures (true-eqb _ 0 c.if-is-empty.ensures)
+pub returns-then-is_empty : goal.returns-then-is_empty
+returns-then-is_empty c = fields_none c.args.text.now c.skip_blanks.result.now c.skip_blanks.ensures (true-eqb _ 0 c.if-is_empty.ensures)
 
-pub returns-else-is-empty : goal.returns-else-is-empty
-returns-else-is-empty c = (refl, fields_some c.args.text.now c.skip-blanks.result.now c.skip-blanks.ensures (false-eqb _ 0 c.if-is-empty.ensures))
+pub returns-else-is_empty : goal.returns-else-is_empty
+returns-else-is_empty c = (refl, fields_some c.args.text.now c.skip_blanks.result.now c.skip_blanks.ensures (false-eqb _ 0 c.if-is_empty.ensures))

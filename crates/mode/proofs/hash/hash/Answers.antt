@@ -9,5 +9,5 @@ pub returns : goal.returns
 returns g c =
     let l = g.M.Multiplier.element c.args.multiplier.now in
     c.times.ensures
-    ∙ ap (product l) (c.bitxor.ensures ∙ ap₂ bit_xor c.header-square.ensures (c.times-of-message.ensures ∙ ap (product l) c.square.ensures))
+    ∙ ap (product l) (c.bitxor.ensures ∙ ap₂ bit_xor c.header_square.ensures (c.times-of_message.ensures ∙ ap (product l) c.square.ensures))
     ∙ hash_is l (option_map (λ x. x.now) c.args.header) c.args.message.now

@@ -6,4 +6,4 @@ use Rattle.mode.proofs.padding.filled.Goals as goal
 
 pub returns : goal.returns
 returns c =
-    (simp (c.copy-from-slice.ensures.after, sub-zero) at c.from-bytes.ensures) ∙ ap spelled (written_over 15 c.args.rest.now 0x80 (omega arith))
+    (simp (c.copy_from_slice.ensures.after, sub-zero) at c.from_bytes.ensures) ∙ ap spelled (written_over 15 c.args.rest.now 0x80 (omega arith))

@@ -4,17 +4,17 @@ use Rattle.block.specs.Bytes.{spelled}
 use Rattle.mode.proofs.Pads.{length-padded, padded_inside, padded_last}
 use Rattle.mode.proofs.padding.padded_block.Goals as goal
 
-pub overflow-mul-at : goal.overflow-mul-at
-overflow-mul-at c = let n = length-padded c.args.text.now in search rules
+pub overflow_mul-at : goal.overflow_mul-at
+overflow_mul-at c = let n = length-padded c.args.text.now in search rules
 
-pub overflow-sub-n : goal.overflow-sub-n
-overflow-sub-n c = omega (arith, length-padded c.args.text.now)
+pub overflow_sub-n : goal.overflow_sub-n
+overflow_sub-n c = omega (arith, length-padded c.args.text.now)
 
-pub slice-bounds-filled-count : goal.slice-bounds-filled-count
-slice-bounds-filled-count c = omega (arith, length-padded c.args.text.now)
+pub slice_bounds-filled-count : goal.slice_bounds-filled-count
+slice_bounds-filled-count c = omega (arith, length-padded c.args.text.now)
 
-pub slice-bounds-filled-start : goal.slice-bounds-filled-start
-slice-bounds-filled-start c = omega (arith, length-padded c.args.text.now)
+pub slice_bounds-filled-start : goal.slice_bounds-filled-start
+slice_bounds-filled-start c = omega (arith, length-padded c.args.text.now)
 
 pub returns-then-n-at-lt16 : goal.returns-then-n-at-lt16
 returns-then-n-at-lt16 c =
@@ -25,4 +25,4 @@ returns-then-n-at-lt16 c =
 
 pub returns-else-n-at-lt16 : goal.returns-else-n-at-lt16
 returns-else-n-at-lt16 c =
-    c.block-at.ensures ∙ sym (padded_inside c.args.text.now c.args.i c.requires (omega (arith, length-padded c.args.text.now)))
+    c.block_at.ensures ∙ sym (padded_inside c.args.text.now c.args.i c.requires (omega (arith, length-padded c.args.text.now)))

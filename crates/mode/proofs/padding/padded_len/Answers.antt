@@ -3,4 +3,4 @@ use Rattle.mode.proofs.Pads.{length-padded}
 use Rattle.mode.proofs.padding.padded_len.Goals as goal
 
 pub returns : goal.returns
-returns c = simp c.saturating-sub.ensures (sym (length-padded c.args.text.now))
+returns c = simp c.saturating_sub.ensures (sym (length-padded c.args.text.now))

@@ -12,7 +12,7 @@ returns g c =
     record {
       opens =
           opens_so (g.M.Multiplier.element c.args.multiplier.now) e d (option_map (λ x. x.now) c.args.header) (num c.args.tag) c.args.text.now
-          (num c.decipher-start.result) c.apply-stream.new.text c.eq.result
-          c.decipher-start.ensures c.apply-stream.ensures (c.eq.ensures ∙ ap (λ x. eqb x (num c.decipher-start.result)) c.hash.ensures);
-      leaves = c.apply-stream.ensures ∙ ap (λ s. streamed e s c.args.text.now) c.decipher-start.ensures;
+          (num c.decipher-start.result) c.apply_stream.new.text c.eq.result
+          c.decipher-start.ensures c.apply_stream.ensures (c.eq.ensures ∙ ap (λ x. eqb x (num c.decipher-start.result)) c.hash.ensures);
+      leaves = c.apply_stream.ensures ∙ ap (λ s. streamed e s c.args.text.now) c.decipher-start.ensures;
     }

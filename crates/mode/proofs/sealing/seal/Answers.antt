@@ -7,5 +7,5 @@ pub returns : goal.returns
 returns g c =
     seals_so (g.M.Multiplier.element c.args.multiplier.now)
     ((g.C.Cipher.scheme c.args.cipher.now).enc (g.C.Cipher.loaded c.args.cipher.now))
-    (option_map (λ x. x.now) c.args.header) c.args.text.now (num c.hash-start.result) (num c.encipher.result) c.apply-stream.new.text
-    c.hash-start.ensures c.encipher.ensures c.apply-stream.ensures
+    (option_map (λ x. x.now) c.args.header) c.args.text.now (num c.hash-start.result) (num c.encipher.result) c.apply_stream.new.text
+    c.hash-start.ensures c.encipher.ensures c.apply_stream.ensures

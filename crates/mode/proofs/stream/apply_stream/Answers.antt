@@ -19,11 +19,11 @@ loop-i-preserved g c =
     let n = count xs in
     let count-is-end = count_is xs in
     let next : 16 * i + 16 ≡ 16 * (i + 1) = omega arith in
-    let key = c.to-bytes-key.ensures ∙ ap (bytes 16) (c.encipher.ensures ∙ ap e c.counter.ensures) in
+    let key = c.to_bytes-key.ensures ∙ ap (bytes 16) (c.encipher.ensures ∙ ap e c.counter.ensures) in
     block_turn xs (stream e s 0 n) (bytes 16 (e (bit_xor s (i + 1)))) (stream e s (i + 1) (n - (i + 1))) (16 * i)
     (omega arith) (covers e s xs) (length-bytes 16 (e (bit_xor s (i + 1)))) (stream_at e s i n (omega arith))
-    c.loop-i.text c.xor-into.new.part (c.min-end.result - 16 * i) (omega arith) c.loop-i.invariant
-    (c.xor-into.ensures ∙ ap (xors (take (c.min-end.result - 16 * i) (drop (16 * i) c.loop-i.text))) key)
+    c.loop-i.text c.xor_into.new.part (c.min-end.result - 16 * i) (omega arith) c.loop-i.invariant
+    (c.xor_into.ensures ∙ ap (xors (take (c.min-end.result - 16 * i) (drop (16 * i) c.loop-i.text))) key)
     ∙ ap (λ (m : ℕ). done m xs (stream e s 0 n)) next
 
 pub returns : goal.returns

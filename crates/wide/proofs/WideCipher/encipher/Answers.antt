@@ -11,4 +11,4 @@ loop-i-init g c = refl
 pub loop-i-preserved : goal.loop-i-preserved
 loop-i-preserved g c =
     let step = round (g.H.HalfCipher.maps c.args.self.now.half_cipher).forward c.args.self.now.key in
-    c.round_halves.ensures ∙ ap (step c.loop-i.i) c.loop-i.invariant ∙ sym (rounds_more step c.loop-i.i c.halves-halves.result)
+    c.round-halves.ensures ∙ ap (step c.loop-i.i) c.loop-i.invariant ∙ sym (rounds_more step c.loop-i.i c.halves-halves.result)

@@ -13,7 +13,7 @@ loop-i-preserved c =
     let i = c.loop-i.i in
     let undo = unround_at (words_of_key c.args.key.now) in
     ap (unrounds undo (i - 1))
-    (c.undo-round-v.ensures ∙ ap (λ (k : ℕ). unround k c.loop-i.v) (c.round-keys-keys.ensures (i - 1) (omega arith)))
+    (c.undo_round-v.ensures ∙ ap (λ (k : ℕ). unround k c.loop-i.v) (c.round_keys-keys.ensures (i - 1) (omega arith)))
     ∙ sym (unrounds_last undo i c.loop-i.v c.loop-i-test.true) ∙ c.loop-i.invariant
 
 pub returns : goal.returns

@@ -14,5 +14,5 @@ pub loop-i-preserved : goal.loop-i-preserved
 loop-i-preserved c =
     let i = c.loop-i.i in
     c.round-v.ensures
-    ∙ ap₂ round (c.round-keys-keys.ensures i c.loop-i-test.true) c.loop-i.invariant
+    ∙ ap₂ round (c.round_keys-keys.ensures i c.loop-i-test.true) c.loop-i.invariant
     ∙ sym (rounds_more (round_at (words_of_key c.args.key.now)) i c.split-v.result)

@@ -14,8 +14,8 @@ loop-k-preserved c = (
       (search rules) c.loop-k.invariant.0 c.loop-k.auto.k c.loop-k-test.true c.loop-k.invariant.1 c.double-even.ensures c.bitxor.ensures,
 )
 
-pub invariant-of-self : goal.invariant-of-self
-invariant-of-self c = (of_its_own (num c.args.block) c.loop-k.products (search rules) (λ k h. c.loop-k.invariant.1 k (omega arith)), tt)
+pub invariant_of-self : goal.invariant_of-self
+invariant_of-self c = record { filled = of_its_own (num c.args.block) c.loop-k.products (search rules) (λ k h. c.loop-k.invariant.1 k (omega arith)) }
 
 pub returns : goal.returns
 returns c = c.loop-k.invariant.1 1 (omega arith) ∙ product_one (num c.args.block) (search rules)

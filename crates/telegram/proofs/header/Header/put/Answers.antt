@@ -7,7 +7,7 @@ returns c =
     record {
       writes =
           header_put c.args.out.now c.args.self.now.gauge c.args.self.now.serial c.args.self.now.kind.0 c.args.self.now.note.now
-          c.copy-from-slice.new.self c.copy-from-slice-2.new.self
-          (c.copy-from-slice.ensures.after ∙ c.front.ensures.bytes) c.copy-from-slice-2.ensures.after;
+          c.copy_from_slice.new.self c.copy_from_slice-2.new.self
+          (c.copy_from_slice.ensures.after ∙ c.front.ensures.bytes) c.copy_from_slice-2.ensures.after;
       serial = c.front.ensures.serial;
     }
