@@ -9,7 +9,7 @@ pub returns-in-Ok-read : goal.returns-in-Ok-read
 returns-in-Ok-read c =
     let p = parts_of c.in-Ok.parts in
     let read = c.in-Ok.ensures in
-    IfOk-weaker c.parts-text.result _ _
+    IfOk-weaker c.parts_text.result _ _
     (λ r e. e ∙ ap (λ at. text_of_parts p at (heading c.in-Ok-read.header)) read.lies.places
     ∙ sym (ap parts_fields read.reads ∙ ap (headed_fields p) c.in-Ok-read.ensures.reads))
-    c.parts-text.ensures
+    c.parts_text.ensures

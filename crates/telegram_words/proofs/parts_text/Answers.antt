@@ -5,5 +5,5 @@ use Rattle.telegram_words.proofs.parts_text.Goals as goal
 pub returns : goal.returns
 returns c =
     IfOk-weaker c.format.result _ _
-    (λ r e. e ∙ simp (c.in-ok-head.ensures, c.in-ok-note.ensures, c.in-ok-tag.ensures, c.in-ok-ciphertext.ensures))
+    (λ r e. e ∙ simp (c.in_ok-head.ensures, c.in_ok-note.ensures, c.in_ok-tag.ensures, c.in_ok-ciphertext.ensures))
     c.format.ensures.ok

@@ -15,13 +15,13 @@ returns-then-not-open g c =
     let h = option_map (λ x. x.now) c.args.header in
     let t = c.args.tag.now in
     let x = c.args.text.now in
-    let load = c.if-not-load-key.ensures in
+    let load = c.if-not-load_key.ensures in
     let fits : sized s k h t x ≡ true = past s k h t x (sym c.if-not-fits.ensures) (sym load.fits) in
-    let tag : num c.from-bytes.result ≡ spelled t = c.from-bytes.ensures ∙ ap spelled c.copy-from-slice.ensures.after in
+    let tag : num c.from_bytes.result ≡ spelled t = c.from_bytes.ensures ∙ ap spelled c.copy_from_slice.ensures.after in
     let opens : opened s k h (given t x) ≡ None =
     sym (c.if-not-open.ensures.opens
-    ∙ opened_is s k h t x (g.C.Cipher.scheme c.load-key.new.cipher) (g.C.Cipher.loaded c.load-key.new.cipher) (g.M.Multiplier.element c.load-key.new.multiplier)
-    load.keys.scheme (load.keys.key refl) (load.keys.hash_key refl) (pair (num c.from-bytes.result) x)
+    ∙ opened_is s k h t x (g.C.Cipher.scheme c.load_key.new.cipher) (g.C.Cipher.loaded c.load_key.new.cipher) (g.M.Multiplier.element c.load_key.new.multiplier)
+    load.keys.scheme (load.keys.key refl) (load.keys.hash_key refl) (pair (num c.from_bytes.result) x)
     ∙ ap (λ a. opened s k h (pair a x)) tag) in
     let leaves = left-past s k h t x fits opens in
     record {
@@ -36,13 +36,13 @@ returns g c =
     let h = option_map (λ x. x.now) c.args.header in
     let t = c.args.tag.now in
     let x = c.args.text.now in
-    let load = c.if-not-load-key.ensures in
+    let load = c.if-not-load_key.ensures in
     let fits : sized s k h t x ≡ true = past s k h t x (sym c.if-not-fits.ensures) (sym load.fits) in
-    let tag : num c.from-bytes.result ≡ spelled t = c.from-bytes.ensures ∙ ap spelled c.copy-from-slice.ensures.after in
+    let tag : num c.from_bytes.result ≡ spelled t = c.from_bytes.ensures ∙ ap spelled c.copy_from_slice.ensures.after in
     let opens : opened s k h (given t x) ≡ Some c.open.new.self.bytes.now =
     sym (c.if-not-open.ensures.opens
-    ∙ opened_is s k h t x (g.C.Cipher.scheme c.load-key.new.cipher) (g.C.Cipher.loaded c.load-key.new.cipher) (g.M.Multiplier.element c.load-key.new.multiplier)
-    load.keys.scheme (load.keys.key refl) (load.keys.hash_key refl) (pair (num c.from-bytes.result) x)
+    ∙ opened_is s k h t x (g.C.Cipher.scheme c.load_key.new.cipher) (g.C.Cipher.loaded c.load_key.new.cipher) (g.M.Multiplier.element c.load_key.new.multiplier)
+    load.keys.scheme (load.keys.key refl) (load.keys.hash_key refl) (pair (num c.from_bytes.result) x)
     ∙ ap (λ a. opened s k h (pair a x)) tag) in
     let leaves = left-past s k h t x fits opens in
     record {
