@@ -14,10 +14,10 @@ returns-in-Ok g c =
     let y = c.unwrap.new.text in
     let opens = c.in-Ok.ensures in
     let same : opened_text y ≡ unwrap_reply s u =
-    unwrap_accepts s u {y = y} c.as-slice.ensures.value c.as-deref.ensures.value c.as-slice-2.ensures.value c.as-mut-slice.ensures.value opens.opens in
+    unwrap_accepts s u {y = y} c.as_slice.ensures.value c.as_deref.ensures.value c.as_slice-2.ensures.value c.as_mut_slice.ensures.value opens.opens in
     let v = c.args.request.ciphertext in
-    let held : c.as-slice-in-Ok.result.now ≡ y =
-    c.as-slice-in-Ok.ensures.value ∙ all_new (vec_len v) (vec_items v) y (c.unwrap.auto.text ∙ c.as-mut-slice.ensures.len) in
+    let held : c.as_slice-in-Ok.result.now ≡ y =
+    c.as_slice-in-Ok.ensures.value ∙ all_new (vec_len v) (vec_items v) y (c.unwrap.auto.text ∙ c.as_mut_slice.ensures.len) in
     record {
       answers = IfOk-weaker c.opened.result _ _ (λ r e. e ∙ ap opened_text held ∙ same) c.opened.ensures;
       scheme = opens.keys.scheme;

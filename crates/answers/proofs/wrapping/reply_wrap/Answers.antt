@@ -15,10 +15,10 @@ returns-in-Ok g c =
     let x = c.wrap.new.text in
     let seals = c.in-Ok.ensures in
     let same : sealed_text t x ≡ wrap_reply s w =
-    wrap_accepts s w {t = t} {x = x} c.as-slice.ensures.value c.as-deref.ensures.value c.as-mut-slice.ensures.value seals.seals in
+    wrap_accepts s w {t = t} {x = x} c.as_slice.ensures.value c.as_deref.ensures.value c.as_mut_slice.ensures.value seals.seals in
     let v = c.args.request.message in
-    let held : c.as-slice-in-Ok.result.now ≡ x =
-    c.as-slice-in-Ok.ensures.value ∙ all_new (vec_len v) (vec_items v) x (c.wrap.auto.text ∙ c.as-mut-slice.ensures.len) in
+    let held : c.as_slice-in-Ok.result.now ≡ x =
+    c.as_slice-in-Ok.ensures.value ∙ all_new (vec_len v) (vec_items v) x (c.wrap.auto.text ∙ c.as_mut_slice.ensures.len) in
     record {
       answers = IfOk-weaker c.sealed.result _ _ (λ r e. e ∙ ap (sealed_text t) held ∙ same) c.sealed.ensures;
       scheme = seals.keys.scheme;

@@ -10,29 +10,29 @@ use Rattle.telegram.specs.declared.parts.Places.{Places}
 use Rattle.station.proofs.Telling.{reads, heads, written_long}
 use Rattle.station.proofs.incoming.Incoming.read.Goals as goal
 
-pub copy-from-slice-requires-2 : goal.copy-from-slice-requires-2
-copy-from-slice-requires-2 c =
-    sym (reads_sized c.args.buffer.now (parts_of c.in-ok-parts.parts) c.in-ok-parts.ensures.reads).tag
+pub copy_from_slice-requires-2 : goal.copy_from_slice-requires-2
+copy_from_slice-requires-2 c =
+    sym (reads_sized c.args.buffer.now (parts_of c.in_ok-parts.parts) c.in_ok-parts.ensures.reads).tag
 
 pub returns : goal.returns
 returns c =
     let b = c.args.buffer.now in
-    let f = c.in-ok-parts.parts in
-    let read = c.in-ok-parts.ensures in
+    let f = c.in_ok-parts.parts in
+    let read = c.in_ok-parts.ensures in
     let tells = reads b (parts_of f) read.reads in
     let sized = reads_sized b (parts_of f) read.reads in
     let header = ap (λ (p : Parts). p.header) tells.2 in
-    let told = heads f.header.now (heading c.in-ok-told.told) c.in-ok-told.ensures.reads ∙ ap headed header in
+    let told = heads f.header.now (heading c.in_ok-told.told) c.in_ok-told.ensures.reads ∙ ap headed header in
     record {
       version = tells.0;
       lengths = tells.1;
       gauge = ap (λ (h : Heading). h.gauge) told;
       serial = ap (λ (h : Heading). h.serial) told;
       kind = ap (λ (h : Heading). h.kind) told;
-      header = take_at c.copy-from-slice.new.self _ (length f.header.now) (ap length c.copy-from-slice.ensures.after) ∙ c.copy-from-slice.ensures.after ∙ header;
+      header = take_at c.copy_from_slice.new.self _ (length f.header.now) (ap length c.copy_from_slice.ensures.after) ∙ c.copy_from_slice.ensures.after ∙ header;
       header_len = ap length header;
       message_len = ap (λ (p : Parts). length p.ciphertext) tells.2;
-      tag = c.from-bytes.ensures ∙ ap spelled (c.copy-from-slice-2.ensures.after ∙ ap (λ (p : Parts). p.tag) tells.2);
+      tag = c.from_bytes.ensures ∙ ap spelled (c.copy_from_slice-2.ensures.after ∙ ap (λ (p : Parts). p.tag) tells.2);
       places = read.lies.places ∙ ap₂ layout (ap length header) (ap (λ (p : Parts). length p.ciphertext) tells.2);
       there = read.lies.ciphertext ∙ ap (λ (p : Parts). p.ciphertext) tells.2;
       ends = ap (λ (p : Places). p.ciphertext.end) read.lies.places ∙ written_long (parts_of f) sized.tag ∙ ap length read.rewrites;

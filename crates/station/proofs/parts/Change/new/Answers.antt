@@ -6,4 +6,4 @@ use Rattle.station.proofs.parts.Change.new.Goals as goal
 pub returns : goal.returns
 returns c =
     ap (wait c.args.sender c.args.serial)
-    (take_at c.copy-from-slice.new.self _ (length c.args.key.now) (ap length c.copy-from-slice.ensures.after) ∙ c.copy-from-slice.ensures.after)
+    (take_at c.copy_from_slice.new.self _ (length c.args.key.now) (ap length c.copy_from_slice.ensures.after) ∙ c.copy_from_slice.ensures.after)

@@ -8,58 +8,58 @@ use Rattle.station.proofs.parts.Station.examine.Goals as goal
 
 pub returns-then-unwanted : goal.returns-then-unwanted
 returns-then-unwanted g c =
-    let told = c.in-ok-incoming.ensures in
+    let told = c.in_ok-incoming.ensures in
     stops_8 (view g.C.Cipher g.M.Multiplier c.args.self.now) c.args.key c.args.buffer.now (search rules) told.version told.lengths
     (sym (c.if-unwanted.ensures c.args.buffer.now told))
 
-pub returns-then-is-unknown : goal.returns-then-is-unknown
-returns-then-is-unknown g c =
-    let told = c.in-ok-incoming.ensures in
+pub returns-then-is_unknown : goal.returns-then-is_unknown
+returns-then-is_unknown g c =
+    let told = c.in_ok-incoming.ensures in
     stops_9 (view g.C.Cipher g.M.Multiplier c.args.self.now) c.args.key c.args.buffer.now (search rules) told.version told.lengths
     (sym (c.if-unwanted.ensures c.args.buffer.now told))
-    (ap (unknown c.args.self.now.ledger.own) (sym told.gauge) ∙ sym c.if-is-unknown.ensures)
+    (ap (unknown c.args.self.now.ledger.own) (sym told.gauge) ∙ sym c.if-is_unknown.ensures)
 
-pub returns-then-is-barred : goal.returns-then-is-barred
-returns-then-is-barred g c =
-    let told = c.in-ok-incoming.ensures in
+pub returns-then-is_barred : goal.returns-then-is_barred
+returns-then-is_barred g c =
+    let told = c.in_ok-incoming.ensures in
     stops_10 (view g.C.Cipher g.M.Multiplier c.args.self.now) c.args.key c.args.buffer.now (search rules) told.version told.lengths
     (sym (c.if-unwanted.ensures c.args.buffer.now told))
-    (ap (unknown c.args.self.now.ledger.own) (sym told.gauge) ∙ sym c.if-is-unknown.ensures)
-    (sym c.if-is-barred.ensures)
+    (ap (unknown c.args.self.now.ledger.own) (sym told.gauge) ∙ sym c.if-is_unknown.ensures)
+    (sym c.if-is_barred.ensures)
 
-pub returns-then-is-stale : goal.returns-then-is-stale
-returns-then-is-stale g c =
-    let told = c.in-ok-incoming.ensures in
+pub returns-then-is_stale : goal.returns-then-is_stale
+returns-then-is_stale g c =
+    let told = c.in_ok-incoming.ensures in
     stops_12 (view g.C.Cipher g.M.Multiplier c.args.self.now) c.args.key c.args.buffer.now (search rules) told.version told.lengths
     (sym (c.if-unwanted.ensures c.args.buffer.now told))
-    (ap (unknown c.args.self.now.ledger.own) (sym told.gauge) ∙ sym c.if-is-unknown.ensures)
-    (sym c.if-is-barred.ensures)
-    (ap₂ (λ n gauge. leb n (last_of gauge c.args.self.now.ledger.gauges)) (sym told.serial) (sym told.gauge) ∙ sym c.if-is-stale.ensures)
+    (ap (unknown c.args.self.now.ledger.own) (sym told.gauge) ∙ sym c.if-is_unknown.ensures)
+    (sym c.if-is_barred.ensures)
+    (ap₂ (λ n gauge. leb n (last_of gauge c.args.self.now.ledger.gauges)) (sym told.serial) (sym told.gauge) ∙ sym c.if-is_stale.ensures)
 
-pub returns-in-err-wear : goal.returns-in-err-wear
-returns-in-err-wear g c =
-    let told = c.in-ok-incoming.ensures in
-    let worn = c.in-err-wear.ensures in
-    let from = err_from_is_err_and c.from-residual-in-err-wear.result c.from-residual-in-err-wear.ensures.1 in
+pub returns-in_err-wear : goal.returns-in_err-wear
+returns-in_err-wear g c =
+    let told = c.in_ok-incoming.ensures in
+    let worn = c.in_err-wear.ensures in
+    let from = err_from_is_err_and c.from_residual-in_err-wear.result c.from_residual-in_err-wear.ensures.1 in
     simp (from.1, from.2, worn.1)
     (stops_13 (view g.C.Cipher g.M.Multiplier c.args.self.now) c.args.key c.args.buffer.now (search rules) told.version told.lengths
     (sym (c.if-unwanted.ensures c.args.buffer.now told))
-    (ap (unknown c.args.self.now.ledger.own) (sym told.gauge) ∙ sym c.if-is-unknown.ensures)
-    (sym c.if-is-barred.ensures)
-    (ap₂ (λ n gauge. leb n (last_of gauge c.args.self.now.ledger.gauges)) (sym told.serial) (sym told.gauge) ∙ sym c.if-is-stale.ensures)
+    (ap (unknown c.args.self.now.ledger.own) (sym told.gauge) ∙ sym c.if-is_unknown.ensures)
+    (sym c.if-is_barred.ensures)
+    (ap₂ (λ n gauge. leb n (last_of gauge c.args.self.now.ledger.gauges)) (sym told.serial) (sym told.gauge) ∙ sym c.if-is_stale.ensures)
     (ap₂ (λ h m. passes h m (use_of c.args.self.now.ledger.wear)) (sym told.header_len) (sym told.message_len) ∙ worn.0))
 
 pub returns : goal.returns
 returns g c =
-    let told = c.in-ok-incoming.ensures in
-    let wear = c.in-ok-wear.ensures in
+    let told = c.in_ok-incoming.ensures in
+    let wear = c.in_ok-wear.ensures in
     record {
       passed =
           passes_all (view g.C.Cipher g.M.Multiplier c.args.self.now) c.args.key c.args.buffer.now (search rules) told.version told.lengths
           (sym (c.if-unwanted.ensures c.args.buffer.now told))
-          (ap (unknown c.args.self.now.ledger.own) (sym told.gauge) ∙ sym c.if-is-unknown.ensures)
-          (sym c.if-is-barred.ensures)
-          (ap₂ (λ n gauge. leb n (last_of gauge c.args.self.now.ledger.gauges)) (sym told.serial) (sym told.gauge) ∙ sym c.if-is-stale.ensures)
+          (ap (unknown c.args.self.now.ledger.own) (sym told.gauge) ∙ sym c.if-is_unknown.ensures)
+          (sym c.if-is_barred.ensures)
+          (ap₂ (λ n gauge. leb n (last_of gauge c.args.self.now.ledger.gauges)) (sym told.serial) (sym told.gauge) ∙ sym c.if-is_stale.ensures)
           (ap₂ (λ h m. passes h m (use_of c.args.self.now.ledger.wear)) (sym told.header_len) (sym told.message_len) ∙ wear.0);
       told = told;
       known = search rules;

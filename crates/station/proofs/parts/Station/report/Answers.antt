@@ -26,5 +26,5 @@ returns g c =
     (ap (λ (n : ℕ). ltb (length out) (5 * n)) (sym count) ∙ le-ltb (length out) (5 * entries.count) c.if-out-len.false)
     (ap (λ (n : ℕ). Reported n wear.calls wear.header_blocks wear.message_blocks) count)
     (ap₂ (λ (x : List ℕ) (n : ℕ). x ++ drop n out)
-    (c.copy-from-slice.ensures.after ∙ ap (λ (n : ℕ). take n entries.bytes) whole ∙ c.entries-entries.ensures.bytes)
+    (c.copy_from_slice.ensures.after ∙ ap (λ (n : ℕ). take n entries.bytes) whole ∙ c.entries-entries.ensures.bytes)
     (whole ∙ ap (λ (n : ℕ). 5 * n) count))

@@ -15,14 +15,14 @@ returns g c =
     let out = c.args.out.now in
     let n = 6 + length c.args.header.now.note.now in
     let m = length c.args.message.now in
-    let t = c.in-ok-sealed.sealed in
-    let x = c.seal-under.new.text in
-    let seals = c.in-ok-sealed.ensures in
+    let t = c.in_ok-sealed.sealed in
+    let x = c.seal_under.new.text in
+    let seals = c.in_ok-sealed.ensures in
     let placed : placing (length c.args.header.now.note.now) m ≡ Ok (layout n m) = grind (arith, nat_tests) in
-    let found = c.in-ok-tag.ensures in
-    let places : c.in-ok-tag.field-0 ≡ layout n m = cc in
+    let found = c.in_ok-tag.ensures in
+    let places : c.in_ok-tag.field-0 ≡ layout n m = cc in
     let put : Places → _ = λ p. put_mid p.tag.start (p.tag.end - p.tag.start) (put_mid p.ciphertext.start (p.ciphertext.end - p.ciphertext.start) out x) t in
     telegram_written (view g.C.Cipher g.M.Multiplier c.args.self.now) (heading c.args.header.now) c.args.message.now out
-    c.copy-from-slice.new.self t x _ c.write-frame.new.out n m
-    (omega arith) (c.seal-under.auto.text ∙ ap length c.copy-from-slice.ensures.after) (ap length seals.tag ∙ length-bytes 16 _) (omega arith)
-    c.copy-from-slice.ensures.after seals (simp c.copy-from-slice-2.ensures.after (ap put places)) c.in-ok-write-frame.ensures.frames
+    c.copy_from_slice.new.self t x _ c.write_frame.new.out n m
+    (omega arith) (c.seal_under.auto.text ∙ ap length c.copy_from_slice.ensures.after) (ap length seals.tag ∙ length-bytes 16 _) (omega arith)
+    c.copy_from_slice.ensures.after seals (simp c.copy_from_slice-2.ensures.after (ap put places)) c.in_ok-write_frame.ensures.frames

@@ -7,7 +7,7 @@ returns c =
     record {
       count = refl;
       bytes =
-          pushed c.args.self.now.count _ c.args.self.now.bytes c.copy-from-slice.new.self (ap length c.copy-from-slice.ensures.after) (search rules)
+          pushed c.args.self.now.count _ c.args.self.now.bytes c.copy_from_slice.new.self (ap length c.copy_from_slice.ensures.after) (search rules)
           ∙ ap (λ (e : List ℕ). take (5 * c.args.self.now.count) c.args.self.now.bytes ++ e)
-          (c.copy-from-slice.ensures.after ∙ ap (λ (r : List ℕ). c.args.gauge ∷ get_or r 0 0 ∷ get_or r 1 0 ∷ get_or r 2 0 ∷ get_or r 3 0 ∷ []) c.to-be-bytes.ensures);
+          (c.copy_from_slice.ensures.after ∙ ap (λ (r : List ℕ). c.args.gauge ∷ get_or r 0 0 ∷ get_or r 1 0 ∷ get_or r 2 0 ∷ get_or r 3 0 ∷ []) c.to_be_bytes.ensures);
     }
