@@ -23,7 +23,7 @@ pub trait Task: Sized {
     ghost comes: { Self → Scheme → Self.Outcome → Type 0 };
 
     fn with<C: Cipher + Drop>(self, cipher: C) -> Self::Outcome
-        ensures { T.comes self (C.scheme cipher) result };
+        ensures { comes self (C.scheme cipher) result };
 }
 
 /// Does the task with a new cipher of that name.
