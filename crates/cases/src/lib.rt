@@ -207,6 +207,7 @@ mod tests {
     fn out_of_size(
         rt: &impl Abort,
         heap: Global,
+        what: &str,
         key: usize,
         header: Option<usize>,
         tag: usize,
@@ -222,16 +223,16 @@ mod tests {
             tag.as_mut_slice(),
             text.as_mut_slice(),
         );
-        assert_eq!(rt; refused, Err(SealFault::Size), "of wrap");
+        assert_eq!(rt; refused, Err(SealFault::Size), "{what}: of wrap");
         assert_eq!(rt;
             tag.as_slice(),
             ramp(heap, tag.len())?.as_slice(),
-            "the tag buffer stays"
+            "{what}: the tag buffer stays"
         );
         assert_eq!(rt;
             text.as_slice(),
             ramp(heap, n)?.as_slice(),
-            "the text stays"
+            "{what}: the text stays"
         );
         let refused = open(
             key.as_slice(),
@@ -239,8 +240,8 @@ mod tests {
             tag.as_slice(),
             text.as_mut_slice(),
         );
-        assert_eq!(rt; refused, Err(SealFault::Size), "of unwrap");
-        assert!(rt; is_zero(text.as_slice()), "the text is cleared");
+        assert_eq!(rt; refused, Err(SealFault::Size), "{what}: of unwrap");
+        assert!(rt; is_zero(text.as_slice()), "{what}: the text is cleared");
         Ok(())
     }
 
@@ -249,7 +250,7 @@ mod tests {
         for n in [0, 1, 15, 16, 17, 4096] {
             there_and_back(&rt, rt.alloc(), Some(6), n)?;
         }
-        out_of_size(&rt, rt.alloc(), 16, Some(6), 16, 4097)
+        out_of_size(&rt, rt.alloc(), "the text", 16, Some(6), 16, 4097)
     }
 
     #[test]
@@ -257,14 +258,14 @@ mod tests {
         for n in [None, Some(0), Some(1), Some(16), Some(1024)] {
             there_and_back(&rt, rt.alloc(), n, 33)?;
         }
-        out_of_size(&rt, rt.alloc(), 16, Some(1025), 16, 33)
+        out_of_size(&rt, rt.alloc(), "the header", 16, Some(1025), 16, 33)
     }
 
     #[test]
     fn wrong_lengths_of_key_and_tag(rt: HostRuntime) -> Result<(), Fail> {
         for n in [0, 1, 15, 17, 32] {
-            out_of_size(&rt, rt.alloc(), n, None, 16, 20).note("the key")?;
-            out_of_size(&rt, rt.alloc(), 16, None, n, 20).note("the tag buffer")?;
+            out_of_size(&rt, rt.alloc(), "the key", n, None, 16, 20)?;
+            out_of_size(&rt, rt.alloc(), "the tag buffer", 16, None, n, 20)?;
         }
         Ok(())
     }

@@ -41,8 +41,8 @@ mod tests {
             0, 0, 0, 2, 0x1c, 0, 0, 0, 0, 0, 0x1a, 0x0a, 0x6c, 0, 0, 0, 0, 0, 0, 2, 0x1c, 0, 0, 0,
             0, 0, 0x18,
         ];
-        assert_eq!(rt; &out[0..53], &expected);
-        assert_eq!(rt; &out[53..60], &[0xee; 7], "what stands behind stays");
+        assert_eq!(rt; &out[0..53], expected.as_slice());
+        assert_eq!(rt; &out[53..60], [0xee; 7].as_slice(), "what stands behind stays");
         Ok(())
     }
 
@@ -58,7 +58,7 @@ mod tests {
         assert_eq!(rt; opened.gauge, 3);
         assert_eq!(rt; opened.serial, 1);
         assert_eq!(rt; opened.message.start, 37);
-        assert_eq!(rt; &buffer[37..53], &MESSAGE);
+        assert_eq!(rt; &buffer[37..53], MESSAGE.as_slice());
         assert!(rt; control.open(&mut again).err() == Some(StationFault::Stale));
         assert!(rt; is_zero(&again), "a refused buffer is cleared");
         damaged[7] = 2;
