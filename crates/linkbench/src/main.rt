@@ -8,6 +8,7 @@ mod names;
 mod show;
 
 use answering::Answering;
+use anyhow::{Context, anyhow};
 use named::cipher_name::CipherName;
 use named::multiplier_name::MultiplierName;
 use named::task::with_cipher;
@@ -23,9 +24,9 @@ fn run(rt: &HostRuntime) -> anyhow::Result<()> {
         [] => show::show(rt),
         [call, telegram] if call.as_str() == "fields" => fields::show(rt, telegram.as_str()),
         [call, cipher, multiplier] => {
-            let call = Call::named(call.as_str()).ok_or(USAGE)?;
-            let cipher = CipherName::named(cipher.as_str()).ok_or(USAGE)?;
-            let multiplier = MultiplierName::named(multiplier.as_str()).ok_or(USAGE)?;
+            let call = Call::named(call.as_str()).context(USAGE)?;
+            let cipher = CipherName::named(cipher.as_str()).context(USAGE)?;
+            let multiplier = MultiplierName::named(multiplier.as_str()).context(USAGE)?;
             with_cipher(
                 cipher,
                 Answering {
@@ -35,7 +36,7 @@ fn run(rt: &HostRuntime) -> anyhow::Result<()> {
                 },
             )
         }
-        _ => Err(USAGE.into()),
+        _ => Err(anyhow!("{USAGE}")),
     }
 }
 
