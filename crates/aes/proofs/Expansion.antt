@@ -4,7 +4,6 @@ use lib.Bits.{bit_xor, xor_lt, xor_zero_r}
 use Rattle.std.proofs.lemmas.List.{take_more, take-set, take_all, get_or-set_same, append_assoc}
 use Rattle.fips197.specs.Field.{xtime}
 use Rattle.fips197.specs.Sbox.{sub_byte}
-use Rattle.fips197.specs.State.{cell}
 use Rattle.fips197.specs.KeyExpansion.{turned, next_byte, next_key_of, expand}
 use Rattle.fips197.proofs.Bytes.{sub_small}
 use Rattle.fips197.proofs.Steps.{same_state}

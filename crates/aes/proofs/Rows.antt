@@ -1,5 +1,5 @@
 -- The rows of a word.
-use Rattle.std.proofs.Common.{◌≡◌, ℕ, zero, suc, ◌+◌, ◌-◌, ◌*◌, ◌/◌, ◌%◌, ◌^◌, ◌<◌, List, [], ◌∷◌, get_or, sym, refl, ap, ◌∙◌, ap₂, mod-lt, arith, lit<}
+use Rattle.std.proofs.Common.{◌≡◌, ℕ, zero, suc, ◌+◌, ◌-◌, ◌/◌, ◌%◌, ◌^◌, ◌<◌, [], ◌∷◌, get_or, sym, ap, ◌∙◌, ap₂, mod-lt, arith, lit<}
 use lib.Bits.{bit_xor, xor_shr, xor_mod}
 use Rattle.fips197.specs.Field.{mul}
 use Rattle.fips197.specs.State.{quad}

@@ -1,5 +1,4 @@
 -- AES-128 as a cipher on blocks: a block is the number that its sixteen bytes spell.
-use Rattle.std.specs.Prelude.{ℕ, List}
 use Rattle.block.specs.Bytes.{spelled, bytes}
 use Rattle.cipher.specs.Scheme.{Scheme}
 use Rattle.fips197.specs.Cipher.{encrypt, decrypt}

@@ -1,5 +1,5 @@
 -- The laws of the field.
-use Rattle.std.proofs.Common.{◌≡◌, ℕ, zero, suc, ◌+◌, ◌-◌, ◌*◌, ◌/◌, ◌%◌, ◌^◌, ◌<◌, ◌≤◌, sym, refl, ap, ◌∙◌, ap₂, le_of_suc-le-suc, not-suc-le-zero, add-zero, add-suc, mod-lt, mod-eq_of_lt, zero-lt-suc, mul_assoc, mul_comm, one-mul, pow-suc, zero-mul, mul-one, arith, lit<, lit≤, pow_pos}
+use Rattle.std.proofs.Common.{◌≡◌, ℕ, zero, suc, ◌+◌, ◌*◌, ◌/◌, ◌%◌, ◌^◌, ◌<◌, ◌≤◌, sym, refl, ap, ◌∙◌, ap₂, le_of_suc-le-suc, not-suc-le-zero, add-zero, add-suc, mod-lt, mod-eq_of_lt, zero-lt-suc, mul_assoc, mul_comm, one-mul, pow-suc, zero-mul, mul-one, arith, lit<, lit≤, pow_pos}
 use native.Mathlib.Nat.{mod-one, mod-mod, div-eq_of_lt}
 use lib.Bits.{bit_xor, xor_assoc, xor_comm, xor_self, xor_zero_r, xor_shr, xor_mod, xor_block, xor_lt, xor_shifted}
 use lib.Pow.{pow-lt, field, mod-pow-add}

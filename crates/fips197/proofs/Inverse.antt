@@ -1,5 +1,5 @@
 -- Cipher and InvCipher undo each other, under every list of round keys, and so under every key.
-use Rattle.std.proofs.Common.{◌≡◌, ℕ, List, [], ◌∷◌, sym, refl, ap, ◌∙◌, lit<}
+use Rattle.std.proofs.Common.{◌≡◌, ℕ, List, [], ◌∷◌, ap, ◌∙◌, lit<}
 use Rattle.std.specs.List.{AllByRecursion as All}
 use Rattle.fips197.specs.State.{IsState, sub_bytes, inv_sub_bytes, shift_rows, inv_shift_rows, mix_columns, inv_mix_columns, add_round_key}
 use Rattle.fips197.specs.KeyExpansion.{next_key_of, expand, round_keys_of}

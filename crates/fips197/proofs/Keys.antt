@@ -1,11 +1,11 @@
 -- The round keys of a key are states.
-use Rattle.std.proofs.Common.{◌≡◌, ℕ, zero, suc, ◌+◌, ◌%◌, ◌<◌, List, [], ◌∷◌, get_or, arith, lit<}
-use lib.Bits.{bit_xor, xor_lt}
+use Rattle.std.proofs.Common.{ℕ, zero, suc, ◌+◌, ◌%◌, ◌<◌, List, [], ◌∷◌, get_or, arith, lit<}
+use lib.Bits.{xor_lt}
 use Rattle.std.specs.List.{AllByRecursion as All}
 use Rattle.fips197.specs.Field.{xtime}
 use Rattle.fips197.specs.Sbox.{sub_byte}
 use Rattle.fips197.specs.State.{IsState, cell}
-use Rattle.fips197.specs.KeyExpansion.{turned, next_byte, next_key_of, expand, round_keys_of}
+use Rattle.fips197.specs.KeyExpansion.{turned, next_byte, next_key_of, expand}
 use Rattle.fips197.proofs.Bytes.{sub_small}
 use Rattle.fips197.proofs.Linear.{xtime_small}
 use Rattle.fips197.proofs.Steps.{made, cell_small}

@@ -1,5 +1,5 @@
 -- The product of bytes is linear, so the mix of a column is undone at each byte of it apart.
-use Rattle.std.proofs.Common.{◌≡◌, ℕ, zero, suc, ◌+◌, ◌*◌, ◌/◌, ◌%◌, ◌^◌, ◌<◌, ◌⊎◌, sym, refl, ap, ◌∙◌, subst, ap₂, inl, inr, add-zero, one-mul, zero-mul, arith}
+use Rattle.std.proofs.Common.{◌≡◌, ℕ, zero, suc, ◌*◌, ◌/◌, ◌%◌, ◌<◌, ◌⊎◌, sym, refl, ap, ◌∙◌, ap₂, inl, inr, add-zero, one-mul, zero-mul, arith}
 use lib.Bits.{bit_xor, xor_lt, xor_assoc, xor_comm, xor_zero_r, xor_self, xor_block, xor_mod, xor_shr}
 use Rattle.fips197.specs.Field.{xtime, times, mul}
 use Rattle.fips197.specs.State.{quad}

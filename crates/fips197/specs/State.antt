@@ -1,5 +1,5 @@
 -- The state: sixteen bytes in four rows and four columns, written column by column. The steps of a round on it.
-use Rattle.std.specs.Prelude.{◌≡◌, ℕ, ◌+◌, ◌-◌, ◌*◌, ◌/◌, ◌%◌, ◌<◌, List, map, length, bit_xor, slice_index}
+use Rattle.std.specs.Prelude.{◌≡◌, ℕ, ◌+◌, ◌-◌, ◌*◌, ◌/◌, ◌%◌, List, map, length, bit_xor, slice_index}
 use Rattle.std.specs.List.{range_with_len}
 use Rattle.block.specs.Bytes.{AllBytes}
 use Rattle.fips197.specs.Field.{mul}

@@ -16,7 +16,7 @@ mod tests {
     #[test]
     fn a_line_is_read(rt: HostRuntime) -> Result<(), Fail> {
         let asked = WrapRequest::parse(rt.alloc(), b"009A  absent\t.\r")?;
-        assert_eq!(rt; asked.key.as_slice(), &[0, 0x9a]);
+        assert_eq!(rt; asked.key.as_slice(), [0, 0x9a].as_slice());
         assert!(rt; asked.header.is_none() && asked.message.is_empty());
         Ok(())
     }

@@ -1,7 +1,7 @@
 -- What the tests before the last come to, from what each of them found.
-use Rattle.std.proofs.Common.{◌≡◌, ℕ, Bool, true, false, ◌&&◌, leb, List, length, is_some, Some, None}
-use Rattle.telegram.specs.Format.{lengths_fit, other_version, parts}
-use Rattle.station.specs.State.{State, last_of}
+use Rattle.std.proofs.Common.{◌≡◌, ℕ, Bool, true, false, ◌&&◌, List, is_some, Some, None}
+use Rattle.telegram.specs.Format.{lengths_fit, other_version}
+use Rattle.station.specs.State.{State}
 use Rattle.station.specs.Tests.{admission, heading, past, stale, unknown, unwanted, worn}
 
 module _ (s : State) (key : Bool) (b : List ℕ) (started : s.started ≡ true) (version : other_version b ≡ false) (lengths : lengths_fit b ≡ true) where

@@ -4,7 +4,6 @@ use Rattle.telegram.specs.declared.fault.TelegramFault.{TelegramFault}
 use Rattle.telegram.specs.declared.fault.TelegramFault.TheVariants.{Version, Lengths}
 use Rattle.telegram.specs.Format.{Parts, header_sized, lengths_fit, other_version, parts, reading, written}
 use Rattle.telegram.specs.Header.{Heading, headed, header_reading}
-use Rattle.station.specs.Incoming.{Untold}
 
 -- two tests, past which x is given
 module _ {X : Type 0} (x : X) where

@@ -1,11 +1,11 @@
 -- What sealing leaves in the output, from the pieces that are put there.
-use Rattle.std.proofs.Common.{◌≡◌, ℕ, ◌+◌, ◌-◌, ◌≤◌, Bool, true, false, cond, List, [], ◌∷◌, ◌++◌, length, take, drop, Ok, Err, Result, sym, refl, ap, ◌∙◌, ap₂, arith, length-append, length-drop, length-take-le}
+use Rattle.std.proofs.Common.{◌≡◌, ℕ, ◌+◌, ◌-◌, Bool, true, false, cond, List, ◌++◌, length, take, drop, Ok, Err, Result, sym, ap, ◌∙◌, ap₂, arith, length-append, length-drop, length-take-le}
 use borrow.Rule.Slice.PartMut.{put_mid}
 use Rattle.std.proofs.lemmas.List.{append-nil, drop_all, drop_at, drop-drop, take_at}
 use Rattle.telegram.specs.declared.fault.TelegramFault.{TelegramFault}
 use Rattle.telegram.specs.declared.fault.TelegramFault.TheVariants.{Lengths}
 use Rattle.telegram.specs.Calls.{around, framing, roomy}
-use Rattle.telegram.specs.Format.{Parts, written}
+use Rattle.telegram.specs.Format.{written}
 use Rattle.telegram.specs.Header.{Heading, header_bytes}
 use Rattle.station.specs.State.{State}
 use Rattle.station.specs.Steps.{Seals, telegram_of}

@@ -1,5 +1,5 @@
 -- Orders, and calls that hand one back.
-use Rattle.std.specs.Prelude.{ℕ, Ok, Err, Result}
+use Rattle.std.specs.Prelude.{Ok, Err, Result}
 use Rattle.station.specs.declared.declining.OrderBack.{OrderBack}
 use Rattle.station.specs.declared.order.ChangeOrder.{ChangeOrder}
 use Rattle.station.specs.Answers.{refusal}

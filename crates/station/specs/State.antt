@@ -1,5 +1,5 @@
 -- What a station holds.
-use Rattle.std.specs.Prelude.{ℕ, Bool, false, List, take, replicate, None, Option, slice_index_or}
+use Rattle.std.specs.Prelude.{ℕ, Bool, List, take, replicate, Option, slice_index_or}
 use Rattle.std.specs.Option.{option_map}
 use Rattle.cipher.specs.Scheme.{Scheme}
 use Rattle.cipher.specs.declared.Cipher as Cipher

@@ -1,11 +1,11 @@
 -- What each call answers, what it leaves in its buffer, and what the station holds then.
-use Rattle.std.specs.Prelude.{◌≡◌, ℕ, ◌+◌, Bool, true, false, cond, not, ◌||◌, List, [], ◌∷◌, ◌++◌, length, take, drop, Some, None, Ok, Err, Option, Result, ◌==◌, nat_lt, slice_set}
+use Rattle.std.specs.Prelude.{◌≡◌, ℕ, ◌+◌, Bool, true, false, cond, not, ◌||◌, List, [], ◌++◌, length, take, drop, Some, None, Ok, Err, Option, Result, ◌==◌, nat_lt, slice_set}
 use Rattle.std.specs.Option.{unwrap_or}
 use Rattle.block.specs.Bytes.{bytes}
 use Rattle.cipher.specs.Scheme.{Scheme}
 use Rattle.mode.specs.Sealing.{Sealed, sealed_by}
 use Rattle.seal.specs.Wrapping.{cleared}
-use Rattle.telegram.specs.Format.{Parts, parts, written}
+use Rattle.telegram.specs.Format.{parts, written}
 use Rattle.telegram.specs.Places.{layout}
 use Rattle.telegram.specs.Header.{Heading, header_bytes}
 use Rattle.station.specs.declared.fault.StationFault.{StationFault}

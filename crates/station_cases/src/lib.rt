@@ -42,7 +42,11 @@ mod tests {
             0, 0, 0x18,
         ];
         assert_eq!(rt; &out[0..53], expected.as_slice());
-        assert_eq!(rt; &out[53..60], [0xee; 7].as_slice(), "what stands behind stays");
+        assert_eq!(rt;
+            &out[53..60],
+            [0xee; 7].as_slice(),
+            "what stands behind stays"
+        );
         Ok(())
     }
 

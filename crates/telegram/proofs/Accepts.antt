@@ -1,5 +1,5 @@
 -- What is read, from the pieces that the code takes off the buffer.
-use Rattle.std.proofs.Common.{◌≡◌, ℕ, ◌+◌, ◌-◌, ◌*◌, ◌<◌, ◌≤◌, true, false, ◌&&◌, eqb, leb, List, length, get_or, take, drop, Ok, Err, sym, ap, ◌∙◌, subst, ap₂, add-zero, arith, length-drop}
+use Rattle.std.proofs.Common.{◌≡◌, ℕ, ◌+◌, ◌-◌, ◌*◌, ◌≤◌, true, false, ◌&&◌, eqb, leb, List, length, get_or, take, drop, Ok, Err, sym, ap, ◌∙◌, subst, ap₂, add-zero, arith, length-drop}
 use Rattle.std.proofs.lemmas.List.{drop-drop, get_or-drop, take_rest}
 use Rattle.std.proofs.lemmas.Slice.{between_to_end}
 use Rattle.std.proofs.lemmas.Bool.{cond-true}
@@ -9,7 +9,7 @@ use Rattle.telegram.specs.declared.parts.Fields.{Fields}
 use Rattle.telegram.specs.declared.parts.Places.{Places}
 use Rattle.telegram.specs.Calls.{Read, parts_of}
 use Rattle.telegram.specs.Format.{Parts, word, header_sized, header_length, message_length, parts, reading}
-use Rattle.telegram.specs.Header.{Heading, number, headed, header_reading}
+use Rattle.telegram.specs.Header.{number, header_reading}
 use Rattle.telegram.specs.Places.{layout, Lies}
 use Rattle.block.specs.Bytes.{AllBytes}
 use Rattle.telegram.proofs.Laws.{Passes, accepted, passed, header_long, ciphertext_long, same_parts, writes_back}

@@ -5,11 +5,11 @@ use Rattle.std.proofs.lemmas.List.{append-nil, drop_all, drop_at, drop-drop, tak
 use Rattle.std.proofs.lemmas.Bool.Decides.{nat_tests}
 use Rattle.telegram.specs.declared.parts.Places.{Places}
 use Rattle.telegram.specs.Calls.{header_writing, around, framing, Framed}
-use Rattle.telegram.specs.Format.{Parts, Sized, two, written, reading}
+use Rattle.telegram.specs.Format.{Sized, two, written, reading}
 use Rattle.telegram.specs.Header.{Heading, four, header_bytes}
 use Rattle.telegram.specs.Places.{layout}
 use Rattle.telegram.proofs.Accepts.{lies_there}
-use Rattle.telegram.proofs.Laws.{header_long, tag_long, ciphertext_long, tag_ciphertext, reads_back, header_reads_back}
+use Rattle.telegram.proofs.Laws.{tag_long, ciphertext_long, tag_ciphertext, reads_back, header_reads_back}
 
 -- ---- a header
 

@@ -1,11 +1,11 @@
 -- Reading and writing undo each other.
-use Rattle.std.proofs.Common.{◌≡◌, ℕ, ◌+◌, ◌-◌, ◌*◌, ◌/◌, ◌%◌, ◌^◌, ◌<◌, ◌≤◌, Bool, true, false, cond, List, [], ◌∷◌, ◌++◌, length, get_or, take, drop, Ok, Err, Result, sym, refl, ap, ◌∙◌, subst, ap₂, arith, lit<, length-append, length-drop}
+use Rattle.std.proofs.Common.{◌≡◌, ℕ, ◌+◌, ◌*◌, ◌/◌, ◌%◌, ◌^◌, ◌<◌, ◌≤◌, Bool, true, false, cond, List, [], ◌∷◌, ◌++◌, length, get_or, take, drop, Ok, Err, sym, refl, ap, ◌∙◌, subst, ap₂, arith, lit<, length-append, length-drop}
 use Rattle.std.proofs.lemmas.List.{append_assoc, drop_more, drop-drop, drop_at, take_at, get_or_at, length-take-le, take-append-drop}
 use Rattle.std.proofs.lemmas.Bool.{cond-true}
 use Rattle.std.proofs.lemmas.Bool.Decides.{nat_tests}
 use Rattle.telegram.specs.declared.fault.TelegramFault.TheVariants.{Version, Lengths}
 use Rattle.telegram.specs.Format.{Parts, Sized, two, written, word, header_length, message_length, other_version, header_sized, lengths_fit, parts, reading}
-use Rattle.telegram.specs.Header.{Heading, Fits, four, number, header_bytes, headed, header_reading}
+use Rattle.telegram.specs.Header.{Heading, Fits, four, header_bytes, headed, header_reading}
 use Rattle.block.specs.Bytes.{AllBytes}
 
 -- ---- what is accepted

@@ -1,7 +1,6 @@
 -- The laws of the wide cipher, from Feistel's shape alone: e has only to take halves to halves.
-use Rattle.std.specs.Prelude.{◌≡◌, List, ℕ, ◌+◌, ◌*◌, ◌^◌, ◌<◌, length, get_or, drop}
+use Rattle.std.specs.Prelude.{◌≡◌, List, ℕ, ◌+◌, ◌*◌, ◌^◌, ◌<◌, length, drop}
 use Rattle.std.proofs.Common.{sym, ap, subst, ◌∙◌, arith, lit≤, length-drop, length-take-le, get_or-take, get_or-drop}
-use Rattle.std.specs.Int.Bits.{bit_xor}
 use Rattle.std.proofs.lemmas.Nat.{xor_lt}
 use Rattle.block.specs.Bytes.{AllBytes}
 use Rattle.block.proofs.Laws.{xor_twice}

@@ -1,4 +1,4 @@
-use Rattle.std.proofs.Common.{◌≡◌, ℕ, ◌+◌, ◌-◌, List, map, drop, sym, ap, ◌∙◌, subst, arith}
+use Rattle.std.proofs.Common.{◌≡◌, ℕ, ◌+◌, ◌-◌, map, drop, ap, ◌∙◌, arith}
 use Rattle.fips197.specs.Cipher.{inv_rounds}
 use Rattle.fips197.specs.State.{inv_mix_columns}
 use Rattle.aes.specs.Columns.{unpack}

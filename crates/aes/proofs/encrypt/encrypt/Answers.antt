@@ -1,4 +1,4 @@
-use Rattle.std.proofs.Common.{◌≡◌, ℕ, List, map, drop, refl, ap, ◌∙◌, arith, rules}
+use Rattle.std.proofs.Common.{◌≡◌, ℕ, map, drop, refl, ap, ◌∙◌, arith, rules}
 use Rattle.fips197.specs.Cipher.{rounds}
 use Rattle.aes.specs.Columns.{unpack}
 use Rattle.aes.proofs.Turns.{first, next, last}

@@ -1,4 +1,4 @@
-use Rattle.std.proofs.Common.{◌+◌, ◌-◌, [], ◌∷◌, length, get_or, ap, ◌∙◌, arith}
+use Rattle.std.proofs.Common.{◌+◌, [], ◌∷◌, length, get_or, ap, ◌∙◌, arith}
 use Rattle.telegram.specs.Header.{heading, header_bytes}
 use Rattle.telegram.proofs.Frames.{frame_put, framed}
 use Rattle.telegram.proofs.writing.write_frame.Goals as goal

@@ -1,5 +1,4 @@
-use mathlib.Core.Path.{◌≡◌, refl, sym, ap, ap₂, ◌∙◌}
-use Prim.Native.Nat.{ℕ}
+use mathlib.Core.Path.{refl, sym, ap₂, ◌∙◌}
 use Rattle.half_cipher.specs.Rounds.{rounds}
 use Rattle.half_cipher.specs.Speck.{round, round_at}
 use Rattle.half_cipher.specs.Words.{words_of_key}

@@ -1,4 +1,4 @@
-use Rattle.std.proofs.Common.{◌≡◌, ℕ, ◌≤◌, List, length, sym, ap, ◌∙◌, subst, ap₂, arith}
+use Rattle.std.proofs.Common.{ℕ, ◌≤◌, List, length, sym, ap, ◌∙◌, subst, ap₂}
 use Rattle.block.specs.Bytes.{spelled}
 use Rattle.std.proofs.lemmas.List.{take_at}
 use Rattle.telegram.specs.Calls.{parts_of}

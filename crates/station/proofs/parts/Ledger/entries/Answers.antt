@@ -1,4 +1,4 @@
-use Rattle.std.proofs.Common.{◌≡◌, ℕ, ◌+◌, ◌*◌, not, List, [], ◌∷◌, ◌++◌, length, take, sym, refl, ap, ◌∙◌, arith, length-append, rules, ne_eqb}
+use Rattle.std.proofs.Common.{ℕ, ◌+◌, ◌*◌, not, List, [], ◌∷◌, ◌++◌, length, take, sym, refl, ap, ◌∙◌, arith, length-append, rules, ne_eqb}
 use Rattle.station.specs.State.{last_of}
 use Rattle.station.specs.Reports.{entry, heard_of, listing}
 use Rattle.station.specs.declared.reporting.Entries.{Entries}

@@ -1,4 +1,4 @@
-use Rattle.std.proofs.Common.{◌≡◌, true, false, leb, sym, ap, ◌∙◌, ap₂, rules}
+use Rattle.std.proofs.Common.{leb, sym, ap, ◌∙◌, ap₂, rules}
 use Rattle.std.proofs.lemmas.Result.{err_from_is_err_and}
 use Rattle.station.specs.State.{last_of, view}
 use Rattle.station.specs.Tests.{unknown}

@@ -8,7 +8,7 @@ use Rattle.station.specs.Use.{use_of}
 use Rattle.station.specs.declared.parts.Ledger.{Ledger}
 use Rattle.station.specs.Steps.{with_message}
 use Rattle.station.specs.Tests.{admission, message, past}
-use Rattle.station.proofs.Opens.{key_stopped, key_mismatched, key_accepted, key_long, message_long, message_there, ordered, part_message, part_short, waits, with_heard, with_ledger, no_message, some_message, with_use}
+use Rattle.station.proofs.Opens.{key_stopped, key_mismatched, key_accepted, message_long, message_there, ordered, part_message, part_short, waits, with_heard, with_ledger, no_message, some_message, with_use}
 use Rattle.station.proofs.parts.Station.open_key.Goals as goal
 
 pub returns-in_err-incoming : goal.returns-in_err-incoming

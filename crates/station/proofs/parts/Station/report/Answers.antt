@@ -1,4 +1,4 @@
-use Rattle.std.proofs.Common.{◌≡◌, ℕ, ◌-◌, ◌*◌, ltb, List, ◌++◌, length, take, drop, sym, refl, ap, ◌∙◌, ap₂, arith, rules, le-ltb, lt-ltb}
+use Rattle.std.proofs.Common.{ℕ, ◌*◌, ltb, List, ◌++◌, length, take, drop, sym, refl, ap, ◌∙◌, ap₂, rules, le-ltb, lt-ltb}
 use native.Mathlib.Nat.{sub-zero}
 use Rattle.station.specs.Calls.{Reported}
 use Rattle.station.specs.State.{view}
