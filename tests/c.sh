@@ -3,15 +3,16 @@
 #   tests/c.sh [ARCHIVE [MORE TO LINK...]]
 set -euo pipefail
 
-archive=$(realpath -m "${1:-$(dirname "$0")/../target/staticlib/libseal_c.a}")
+archive=$(realpath -m "${1:-$(dirname "$0")/../crates/seal_c/out/libseal_c.a}")
 more=("${@:2}")
+made=$#
 cd "$(dirname "$0")/.."
-if [ ! -f "$archive" ]; then
-    echo "c: no archive $archive; rt staticlib seal_c makes it"
-    exit 1
-fi
 work=$(mktemp -d)
 trap 'rm -rf "$work"' EXIT
+if [ "$made" = 0 ] && ! (cd crates/seal_c && rt lib) > "$work/log" 2>&1; then
+    tail -n 20 "$work/log"
+    exit 1
+fi
 
 sources=(tests/c/main.c tests/c/{check,fenced,call,random,hex}.c tests/c/reference_{aes,hbs}.c tests/c/test_*.c)
 flags=(-std=c11 -Wall -Wextra -Wpedantic -Werror -Iinclude)

@@ -1,9 +1,9 @@
 #!/usr/bin/env bash
-# Runs linkbench over the vectors and over sample lines, and compares. Needs target/bin/linkbench.
+# Runs linkbench over the vectors and over sample lines, and compares.
 set -euo pipefail
 cd "$(dirname "$0")/.."
 
-linkbench=target/bin/linkbench
+linkbench=./linkbench
 vectors=tests/vectors/hbs.txt
 work=$(mktemp -d)
 trap 'rm -rf "$work"' EXIT

@@ -1,20 +1,19 @@
 #!/usr/bin/env bash
 # A program that lets a change order lapse, and one that spends it twice, must not compile. Each is made from a program
-# that does, by one change of its text, and the compiler's own error is compared. Needs the crates proved (target/).
+# that does, by one change of its text, and the compiler's own error is compared.
 set -euo pipefail
 cd "$(dirname "$0")/.."
 work=$(mktemp -d)
 trap 'rm -rf "$work"' EXIT
 
-cp -R crates.txt crates "$work"
-mkdir -p "$work/crates/misuse/src" "$work/target"
-cp -R target/rlib target/stamp "$work/target"
+tar --exclude=out -cf - crates.txt crates | tar -xf - -C "$work"
+mkdir -p "$work/crates/misuse/src"
 echo 'misuse: block multiplier cipher mode seal telegram station' >> "$work/crates.txt"
 program=$work/crates/misuse/src/lib.rt
 
-# compiles NAME: what `rt dev` says of the program as it stands
+# compiles NAME: what `rt check` says of the program as it stands
 compiles() {
-    (cd "$work" && RT_JOBS=1 rt dev misuse) > "$work/$1.log" 2>&1
+    (cd "$work/crates/misuse" && rt check) > "$work/$1.log" 2>&1
 }
 
 # refused NAME ERROR OLD NEW: with NEW for OLD the compiler gives that error, and no other

@@ -6,8 +6,8 @@ work=$(mktemp -d)
 trap 'rm -rf "$work"' EXIT
 
 for crate in seal_c stream_c hash_c; do
-    rt staticlib "$crate" > "$work/log" 2>&1 || { tail -n 20 "$work/log"; exit 1; }
+    (cd "crates/$crate" && rt lib) > "$work/log" 2>&1 || { tail -n 20 "$work/log"; exit 1; }
 done
 gcc -std=c11 -Wall -Wextra -Wpedantic -Werror -O3 -Iinclude tests/c/bench.c tests/c/baseline_aes.c \
-    target/staticlib/lib{seal,stream,hash}_c.a -o "$work/bench"
+    crates/{seal_c/out/libseal_c,stream_c/out/libstream_c,hash_c/out/libhash_c}.a -o "$work/bench"
 "$work/bench"
