@@ -15,8 +15,9 @@ use named::task::with_cipher;
 use names::Call;
 use std::env;
 
+// an error that `main` returns keeps 128 bytes of its text
 const USAGE: &str =
-    "usage: linkbench [fields HEX | wrap|unwrap CIPHER MULTIPLIER], CIPHER aes128, bench, wide-xtea or wide-speck64128, MULTIPLIER doubling or table";
+    "usage: linkbench [fields HEX | wrap|unwrap aes128|bench|wide-xtea|wide-speck64128 doubling|table]";
 
 fn run(rt: &HostRuntime) -> anyhow::Result<()> {
     let words: Vec<String> = env::args(rt)?.skip(1).collect(rt.alloc())?;
