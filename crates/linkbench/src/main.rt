@@ -15,7 +15,7 @@ use named::task::with_cipher;
 use names::Call;
 use std::env;
 
-// an error that `main` returns keeps 128 bytes of its text
+// kept short, since an error holds 120 bytes of text
 const USAGE: &str =
     "usage: linkbench [fields HEX | wrap|unwrap aes128|bench|wide-xtea|wide-speck64128 doubling|table]";
 
