@@ -4,7 +4,7 @@ ghost use Rattle.cipher.specs.Bench.{bench, xored};
 ghost use Rattle.std.specs.Prelude.{replicate, ◌≡◌};
 ghost use Rattle.cipher.specs.BenchLaws.{bench_lawful};
 
-use crate::Cipher;
+use crate::{Cipher, WrongKeyLen};
 use block::Block;
 
 /// XORs a key of 16 bytes, forwards and backwards.
@@ -39,14 +39,9 @@ impl Cipher for Bench {
         self.key.len()
     }
 
-    fn load(&mut self, key: &[u8]) -> bool {
-        match <[u8; 16]>::try_from(key) {
-            Ok(bytes) => {
-                self.key = bytes;
-                true
-            }
-            Err(_) => false,
-        }
+    fn load(&mut self, key: &[u8]) -> Result<(), WrongKeyLen> {
+        self.key = <[u8; 16]>::try_from(key)?;
+        Ok(())
     }
 
     fn encipher(&self, block: Block) -> Block {

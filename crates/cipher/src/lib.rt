@@ -3,12 +3,14 @@
 
 pub mod bench;
 pub mod whitened;
+pub mod wrong_key_len;
 
-ghost use Rattle.std.specs.Prelude.{ℕ, eqb, length, false, true, List, ◌≡◌};
+ghost use Rattle.std.specs.Prelude.{ℕ, length, is_ok, List, OnErr, OnOk, ◌==◌, ◌≡◌};
 ghost use Rattle.block.specs.Num.{num};
 ghost use Rattle.cipher.specs.Scheme.{Lawful, Scheme};
 
 use block::Block;
+pub use wrong_key_len::WrongKeyLen;
 
 /// A block cipher that holds a key. Its scheme, which is the key's length and the two maps, is fixed when it is made.
 pub trait Cipher {
@@ -21,12 +23,12 @@ pub trait Cipher {
     fn key_len(&self) -> usize
         ensures { result ≡ (scheme self.now).key_len };
 
-    /// Sets the key and answers yes; a key of another length is answered no, and alters nothing.
-    fn load(&mut self, key: &[u8]) -> bool
-        ensures fits { result ≡ eqb (length key.now) (scheme self.old).key_len }
+    /// Sets the key; one of another length is refused, and alters nothing.
+    fn load(&mut self, key: &[u8]) -> Result<(), WrongKeyLen>
+        ensures fits { is_ok result ≡ (length key.now == (scheme self.old).key_len) }
         ensures scheme { scheme self.new ≡ scheme self.old }
-        ensures sets { result ≡ true → loaded self.new ≡ key.now }
-        ensures alters { result ≡ false → self.new ≡ self.old };
+        ensures sets { OnOk result (loaded self.new ≡ key.now) }
+        ensures alters { OnErr result (self.new ≡ self.old) };
 
     /// The block enciphered under the key held.
     fn encipher(&self, block: Block) -> Block

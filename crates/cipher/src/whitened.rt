@@ -4,7 +4,7 @@ ghost use Rattle.block.specs.Num.{num};
 ghost use Rattle.cipher.specs.Whitened.{whitened};
 ghost use Rattle.cipher.specs.WhitenedLaws.{whitened_lawful};
 
-use crate::Cipher;
+use crate::{Cipher, WrongKeyLen};
 use block::Block;
 
 /// Adds one block before the cipher within enciphers, and another one after.
@@ -41,7 +41,7 @@ impl<C: Cipher> Cipher for Whitened<C> {
         self.inner.key_len()
     }
 
-    fn load(&mut self, key: &[u8]) -> bool {
+    fn load(&mut self, key: &[u8]) -> Result<(), WrongKeyLen> {
         self.inner.load(key)
     }
 
