@@ -102,8 +102,8 @@ module _ (b : List ℕ) (h m : ℕ) (back : List ℕ)
 
 -- ---- a header
 
-pub header_read : (b : List ℕ) (s : ℕ) (note : List ℕ) → header_sized (length b) ≡ true → s ≡ number b 1 → note ≡ drop 6 b
-    → header_reading b ≡ Ok (record { gauge = get_or b 0 0; serial = s; kind = get_or b 5 0; note = note })
-header_read b s note sized es en =
+pub header_read : (b : List ℕ) (s k : ℕ) (note : List ℕ) → header_sized (length b) ≡ true → s ≡ number b 1 → k ≡ get_or b 5 0 → note ≡ drop 6 b
+    → header_reading b ≡ Ok (record { gauge = get_or b 0 0; serial = s; kind = k; note = note })
+header_read b s k note sized es ek en =
     cond-true _ _ _ sized
-    ∙ ap₂ (λ x y. Ok (record { gauge = get_or b 0 0; serial = x; kind = get_or b 5 0; note = y })) (sym es) (sym en)
+    ∙ ap Ok cc

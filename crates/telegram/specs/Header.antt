@@ -4,6 +4,7 @@ use Rattle.telegram.specs.declared.fault.TelegramFault.{TelegramFault}
 use Rattle.telegram.specs.declared.fault.TelegramFault.TheVariants.{Lengths}
 use Rattle.telegram.specs.declared.header.Header.{Header}
 use Rattle.telegram.specs.Format.{header_sized}
+use Rattle.telegram.specs.Kind.{kind_byte}
 
 pub record Heading : Type 0 where
   pub gauge : ℕ
@@ -13,7 +14,7 @@ pub record Heading : Type 0 where
 
 -- what a header says
 abbrev pub heading : Header → Heading
-heading h = record { gauge = h.gauge; serial = h.serial; kind = h.kind.0; note = h.note.now }
+heading h = record { gauge = h.gauge; serial = h.serial; kind = kind_byte h.kind; note = h.note.now }
 
 -- a number in four bytes, the highest first
 abbrev pub four : ℕ → List ℕ

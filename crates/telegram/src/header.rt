@@ -2,19 +2,11 @@
 ghost use Rattle.std.specs.Prelude.{◌≡◌, ◌+◌, ◌*◌, ◌^◌, ◌<◌, [], ◌∷◌, ◌++◌, length, IfOk, Ok, Err, MatchResult, OnOk};
 ghost use Rattle.telegram.specs.Calls.{header_writing};
 ghost use Rattle.telegram.specs.Header.{four, header_bytes, header_reading, heading};
+ghost use Rattle.telegram.specs.Kind.{kind_byte};
 
 use crate::fault::TelegramFault;
+pub use crate::kind::Kind;
 use crate::sizes::{MAX_NOTE, MIN_HEADER, header_fits};
-
-/// What a telegram brings, as its byte says. Kinds without a name here are read as they are.
-#[derive(Clone, Copy, PartialEq, Eq, Debug)]
-pub struct Kind(pub u8);
-
-impl Kind {
-    pub const MEASUREMENT: Kind = Kind(0);
-
-    pub const KEY: Kind = Kind(1);
-}
 
 #[derive(Clone, Copy)]
 pub struct Header<'a> {
@@ -41,7 +33,7 @@ impl Header<'_> {
             [gauge, s3, s2, s1, s0, kind, note @ ..] if header_fits(bytes.len()) => Ok(Header {
                 gauge: *gauge,
                 serial: serial_of(*s3, *s2, *s1, *s0),
-                kind: Kind(*kind),
+                kind: Kind::from(*kind),
                 note,
             }),
             _ => Err(TelegramFault::Lengths),
@@ -63,11 +55,11 @@ impl Header<'_> {
 
     /// The bytes before the note.
     fn front(&self) -> [u8; 6]
-        ensures bytes { result ≡ self.now.gauge ∷ (four self.now.serial ++ (self.now.kind.0 ∷ [])) }
+        ensures bytes { result ≡ self.now.gauge ∷ (four self.now.serial ++ (kind_byte self.now.kind ∷ [])) }
         ensures serial { self.now.serial < 2 ^ 32 }
     {
         let [s3, s2, s1, s0] = self.serial.to_be_bytes();
-        [self.gauge, s3, s2, s1, s0, self.kind.0]
+        [self.gauge, s3, s2, s1, s0, u8::from(self.kind)]
     }
 
     /// Writes the header over bytes of its own length.

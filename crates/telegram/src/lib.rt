@@ -5,14 +5,13 @@ ghost use Rattle.telegram.specs.Theorems.{FormatLaws};
 
 pub mod fault;
 pub mod header;
+pub mod kind;
 pub mod parts;
 pub mod reading;
 pub mod sizes;
 pub mod writing;
 
 /// States that reading and writing undo each other.
-pub fn format_laws() -> u8
+pub fn format_laws()
     ensures { FormatLaws }
-{
-    0
-}
+{}
