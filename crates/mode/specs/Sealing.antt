@@ -24,3 +24,20 @@ sealed s k h m = sealed_by (s.enc k 0) (s.enc k) h m
 
 abbrev pub opened : Scheme → List ℕ → Option (List ℕ) → Sealed → Option (List ℕ)
 opened s k h c = opened_by (s.enc k 0) (s.enc k) (s.dec k) h c
+
+-- a cipher's scheme, a key of it, and a hash key, whether or not it is the key's
+pub record Keys : Type 0 where
+  pub scheme : Scheme
+  pub key : List ℕ
+  pub hash_key : ℕ
+
+-- under such keys
+abbrev pub sealed_with : Keys → Option (List ℕ) → List ℕ → Sealed
+sealed_with k h m = sealed_by k.hash_key (k.scheme.enc k.key) h m
+
+abbrev pub opened_with : Keys → Option (List ℕ) → Sealed → Option (List ℕ)
+opened_with k h c = opened_by k.hash_key (k.scheme.enc k.key) (k.scheme.dec k.key) h c
+
+-- .. what is left of a text once the stream that the tag t stands for is taken off
+abbrev pub streamed_with : Keys → ℕ → List ℕ → List ℕ
+streamed_with k t x = streamed (k.scheme.enc k.key) (k.scheme.dec k.key t) x

@@ -2,7 +2,7 @@
 ghost use Rattle.block.specs.Num.{num};
 ghost use Rattle.mode.specs.Hash.{hash as hashed, header_squared, poly, squared};
 ghost use Rattle.mode.specs.Padding.{padded};
-ghost use Rattle.std.specs.Option.{option_map};
+ghost use Rattle.std.specs.Option.{option_copied};
 ghost use Rattle.std.specs.Prelude.{◌≡◌};
 
 use crate::padding::{is_whole, padded_block, padded_len};
@@ -35,7 +35,7 @@ fn square<M: Multiplier>(multiplier: &M, text: &[u8]) -> Block
 
 /// What a header brings: an absent one nothing.
 fn header_square<M: Multiplier>(multiplier: &M, header: Option<&[u8]>) -> Block
-    ensures { num result ≡ header_squared (M.element multiplier.now) (option_map (λ x. x.now) header.entry) }
+    ensures { num result ≡ header_squared (M.element multiplier.now) (option_copied header.entry) }
 {
     match header {
         Some(header) => square(multiplier, header),
@@ -45,7 +45,7 @@ fn header_square<M: Multiplier>(multiplier: &M, header: Option<&[u8]>) -> Block
 
 /// The hash of a header, which may be absent, and a message, under the element held.
 pub fn hash<M: Multiplier>(multiplier: &M, header: Option<&[u8]>, message: &[u8]) -> Block
-    ensures { num result ≡ hashed (M.element multiplier.now) (option_map (λ x. x.now) header.entry) message.now }
+    ensures { num result ≡ hashed (M.element multiplier.now) (option_copied header.entry) message.now }
 {
     let of_message = multiplier.times(square(multiplier, message));
     multiplier.times(header_square(multiplier, header) ^ of_message)
