@@ -5,8 +5,9 @@ use Rattle.block.proofs.Spelling.{spelled-bytes, spelled_block}
 use Rattle.cipher.specs.declared.Cipher as Cipher
 use Rattle.cipher.specs.Scheme.{Scheme, IsKey, Lawful}
 use Rattle.mode.specs.Hash.{hash}
-use Rattle.mode.specs.Keys.{Keyed}
-use Rattle.mode.specs.Sealing.{Sealed, pair, sealed_by, opened_by, sealed, opened}
+use Rattle.mode.specs.declared.hbs.Hbs.{Hbs}
+use Rattle.mode.specs.Keys.{Keyed, keys}
+use Rattle.mode.specs.Sealing.{Sealed, pair, sealed_by, sealed, opened, sealed_with, opened_with}
 use Rattle.mode.proofs.Hashes.{hash_lt}
 use Rattle.mode.proofs.Inverts.{inverses}
 use Rattle.multiplier.specs.declared.Multiplier as Multiplier
@@ -20,10 +21,18 @@ both_true true true e = (refl, refl)
 both_true true false e = (refl, e)
 both_true false b e = let z : false ≡ true = e in (z, grind arith)
 
--- a load that was taken, under the test that it passed
-pub rekeyed : {C M : Type 0} {cs : Cipher.Ghosts C} {ms : Multiplier.Ghosts M} {past : Bool} {k : List ℕ} {c c' : C} {m m' : M}
-    → past ≡ true → Keyed cs ms true k c m c' m' → Keyed cs ms past k c m c' m'
-rekeyed {cs = cs} {ms} {past} {k} {c} {c'} {m} {m'} fits load = subst (λ b. Keyed cs ms b k c m c' m') (sym fits) load
+-- once a key is loaded, it is what is held, with its hash key
+held : {C M : Type 0} {cs : Cipher.Ghosts C} {ms : Multiplier.Ghosts M} {k : List ℕ} {hbs hbs' : Hbs C M}
+    → Keyed cs ms true k hbs hbs' → keys cs ms hbs' ≡ record { scheme = cs.scheme hbs.cipher; key = k; hash_key = (cs.scheme hbs.cipher).enc k 0 }
+held load = let scheme = load.scheme in let key = load.key refl in let hash_key = load.hash_key refl in cc
+
+pub seals_held : {C M : Type 0} {cs : Cipher.Ghosts C} {ms : Multiplier.Ghosts M} {k : List ℕ} {hbs hbs' : Hbs C M} {c : Sealed} (h : Option (List ℕ)) (x : List ℕ)
+    → Keyed cs ms true k hbs hbs' → c ≡ sealed_with (keys cs ms hbs') h x → c ≡ sealed (cs.scheme hbs.cipher) k h x
+seals_held h x load seals = seals ∙ ap (λ k. sealed_with k h x) (held load)
+
+pub opens_held : {C M : Type 0} {cs : Cipher.Ghosts C} {ms : Multiplier.Ghosts M} {k : List ℕ} {hbs hbs' : Hbs C M} {a : ℕ} {o : Option (List ℕ)} (h : Option (List ℕ)) (t x : List ℕ)
+    → Keyed cs ms true k hbs hbs' → a ≡ spelled t → o ≡ opened_with (keys cs ms hbs') h (pair a x) → opened (cs.scheme hbs.cipher) k h (given t x) ≡ o
+opens_held h t x load tag opens = sym (opens ∙ ap₂ (λ k a. opened_with k h (pair a x)) (held load) tag)
 
 module _ (s : Scheme) (k : List ℕ) (h : Option (List ℕ)) (t x : List ℕ) where
   pub past : buffers_sized h t x ≡ true → eqb (length k) s.key_len ≡ true → sized s k h t x ≡ true
@@ -37,16 +46,6 @@ module _ (s : Scheme) (k : List ℕ) (h : Option (List ℕ)) (t x : List ℕ) wh
       let buffers = (both_true (buffers_sized h t x) (eqb (length k) s.key_len) fits).0 in
       let tail = (both_true (header_sized h) (eqb (length t) 16 && leb (length x) 4096) buffers).1 in
       eqb-true (length t) 16 (both_true (eqb (length t) 16) (leb (length x) 4096) tail).0
-
-  -- the scheme, the key and the hash key that the maps are taken from
-  module _ (s' : Scheme) (k' : List ℕ) (l' : ℕ) (scheme : s' ≡ s) (key : k' ≡ k) (hash_key : l' ≡ s.enc k 0) where
-    pub sealed_is : sealed_by l' (s'.enc k') h x ≡ sealed s k h x
-    sealed_is = ap₂ (λ l e. sealed_by l e h x) hash_key (ap₂ (λ (z : Scheme) y. z.enc y) scheme key)
-
-    pub opened_is : (c : Sealed) → opened_by l' (s'.enc k') (s'.dec k') h c ≡ opened s k h c
-    opened_is c =
-        ap (λ l. opened_by l (s'.enc k') (s'.dec k') h c) hash_key
-        ∙ ap₂ (λ (z : Scheme) y. opened_by (s.enc k 0) (z.enc y) (z.dec y) h c) scheme key
 
   -- past the size test wrap leaves what is sealed, and that opens to the message
   pub wraps : Lawful s → AllBytes k → sized s k h t x ≡ true → {t' x' : List ℕ}

@@ -1,7 +1,9 @@
 // Why a message is not wrapped or unwrapped.
 ghost use Rattle.seal.specs.Answers.{refusal, words};
+ghost use Rattle.seal.specs.declared.fault.SealFault.TheVariants.{Size};
 ghost use Rattle.std.specs.Prelude.{◌≡◌, Some};
 
+use cipher::WrongKeyLen;
 use std::error::Error;
 use std::fmt;
 
@@ -32,6 +34,14 @@ impl SealFault {
             SealFault::Size => "a length is not one that is taken",
             SealFault::Mismatch => "tag and text do not belong together under this key and header",
         }
+    }
+}
+
+impl From<WrongKeyLen> for SealFault {
+    ghost from_gives = { λ _ fault. fault ≡ Size };
+
+    fn from(_wrong: WrongKeyLen) -> Self {
+        Self::Size
     }
 }
 

@@ -1,6 +1,6 @@
 // The sizes that are taken.
 ghost use Rattle.seal.specs.Sizes.{buffers_sized};
-ghost use Rattle.std.specs.Option.{option_map};
+ghost use Rattle.std.specs.Option.{option_copied};
 ghost use Rattle.std.specs.Prelude.{◌≡◌};
 
 /// The longest header, in bytes.
@@ -11,11 +11,9 @@ pub const MAX_TEXT: usize = 4096;
 
 /// Whether a header, a tag buffer and a text are of sizes that are taken.
 pub(crate) fn buffers_fit(header: Option<&[u8]>, tag: &[u8], text: &[u8]) -> bool
-    ensures { result ≡ buffers_sized (option_map (λ x. x.now) header.entry) tag.now text.now }
+    ensures { result ≡ buffers_sized (option_copied header.entry) tag.now text.now }
 {
-    let header_fits = match header {
-        Some(header) => header.len() <= MAX_HEADER,
-        None => true,
-    };
-    header_fits && tag.len() == 16 && text.len() <= MAX_TEXT
+    header.is_none_or(|header| header.len() <= MAX_HEADER)
+        && tag.len() == 16
+        && text.len() <= MAX_TEXT
 }

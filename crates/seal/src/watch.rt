@@ -1,22 +1,24 @@
 // A guard over bytes that are being opened.
 ghost use Rattle.block.specs.Num.{num};
-ghost use Rattle.mode.specs.Sealing.{opened_by, pair};
-ghost use Rattle.mode.specs.Stream.{streamed};
+ghost use Rattle.mode.specs.Keys.{keys};
+ghost use Rattle.mode.specs.Sealing.{opened_with, pair, streamed_with};
 ghost use Rattle.seal.specs.Sizes.{buffers_sized};
+ghost use Rattle.seal.specs.Watching.{SameBuffer};
 ghost use Rattle.seal.specs.Wrapping.{cleared, part_mapped, part_opened};
-ghost use Rattle.std.specs.Option.{option_map};
+ghost use Rattle.std.specs.Option.{option_copied};
 ghost use Rattle.std.specs.List.{between};
 ghost use Rattle.std.specs.Prelude.{◌≡◌, true, length, if◌then◌else◌, Some, None};
 
 use crate::sizes::buffers_fit;
 use block::Block;
 use cipher::Cipher;
-use mode::sealing;
+use mode::hbs::Hbs;
 use multiplier::Multiplier;
 
 /// Bytes that are cleared when the watch over them ends, unless acceptance released them.
 pub struct Watch<'a> {
     pub bytes: &'a mut [u8],
+    // a flag beside the bytes: the guard's own end has to say what it leaves, released or not
     pub released: bool,
 }
 
@@ -37,7 +39,7 @@ impl Drop for Watch<'_> {
 impl Watch<'_> {
     /// Whether the bytes, a header and a tag buffer are of sizes that are taken.
     pub(crate) fn fits(&self, header: Option<&[u8]>, tag: &[u8]) -> bool
-        ensures { result ≡ buffers_sized (option_map (λ x. x.now) header.entry) tag.now self.now.bytes.now }
+        ensures { result ≡ buffers_sized (option_copied header.entry) tag.now self.now.bytes.now }
     {
         buffers_fit(header, tag, self.bytes)
     }
@@ -45,16 +47,15 @@ impl Watch<'_> {
     /// Opens the bytes where they stand, and releases them if they are authentic.
     pub(crate) fn open<C: Cipher, M: Multiplier>(
         &mut self,
-        cipher: &C,
-        multiplier: &M,
+        hbs: &Hbs<C, M>,
         header: Option<&[u8]>,
         tag: Block,
     ) -> bool
-        ensures opens { (if result then Some self.new.bytes.now else None) ≡ opened_by (M.element multiplier.now) ((C.scheme cipher.now).enc (C.loaded cipher.now)) ((C.scheme cipher.now).dec (C.loaded cipher.now)) (option_map (λ x. x.now) header.entry) (pair (num tag) self.old.bytes.now) }
+        ensures opens { (if result then Some self.new.bytes.now else None) ≡ opened_with (keys C.Cipher M.Multiplier hbs.now) (option_copied header.entry) (pair (num tag) self.old.bytes.now) }
         ensures releases { self.new.released ≡ result }
-        ensures same { self.new.bytes.ghost_name ≡ self.old.bytes.ghost_name }
+        ensures same { SameBuffer self.old self.new }
     {
-        let authentic = sealing::open(cipher, multiplier, header, tag, self.bytes);
+        let authentic = hbs.open(header, tag, self.bytes);
         self.released = authentic;
         authentic
     }
@@ -71,36 +72,29 @@ impl Watch<'_> {
     /// no, and alters nothing.
     pub fn open_part<C: Cipher, M: Multiplier>(
         &mut self,
-        cipher: &C,
-        multiplier: &M,
+        hbs: &Hbs<C, M>,
         header: &[u8],
         tag: Block,
         start: usize,
         end: usize,
     ) -> bool
-        ensures opens { (if result then Some self.new.bytes.now else None) ≡ part_opened start end (opened_by (M.element multiplier.now) ((C.scheme cipher.now).enc (C.loaded cipher.now)) ((C.scheme cipher.now).dec (C.loaded cipher.now)) (Some header.now) (pair (num tag) (between start end self.old.bytes.now))) self.old.bytes.now }
-        ensures leaves { self.new.bytes.now ≡ part_mapped start end (streamed ((C.scheme cipher.now).enc (C.loaded cipher.now)) ((C.scheme cipher.now).dec (C.loaded cipher.now) (num tag))) self.old.bytes.now }
+        ensures opens { (if result then Some self.new.bytes.now else None) ≡ part_opened start end (opened_with (keys C.Cipher M.Multiplier hbs.now) (Some header.now) (pair (num tag) (between start end self.old.bytes.now))) self.old.bytes.now }
+        ensures leaves { self.new.bytes.now ≡ part_mapped start end (streamed_with (keys C.Cipher M.Multiplier hbs.now) (num tag)) self.old.bytes.now }
         ensures len { length self.new.bytes.now ≡ length self.old.bytes.now }
         ensures holds { self.new.released ≡ self.old.released }
-        ensures same { self.new.bytes.ghost_name ≡ self.old.bytes.ghost_name }
+        ensures same { SameBuffer self.old self.new }
     {
         if start > end || end > self.bytes.len() {
             return false;
         }
-        sealing::open(
-            cipher,
-            multiplier,
-            Some(header),
-            tag,
-            &mut self.bytes[start..end],
-        )
+        hbs.open(Some(header), tag, &mut self.bytes[start..end])
     }
 
     /// Releases the bytes: they stay as they stand.
     pub fn release(&mut self)
         ensures bytes { self.new.bytes.now ≡ self.old.bytes.now }
         ensures releases { self.new.released ≡ true }
-        ensures same { self.new.bytes.ghost_name ≡ self.old.bytes.ghost_name }
+        ensures same { SameBuffer self.old self.new }
     {
         self.released = true;
     }

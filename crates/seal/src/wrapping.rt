@@ -3,14 +3,14 @@ ghost use Rattle.mode.specs.Keys.{Keyed};
 ghost use Rattle.seal.specs.Answers.{answered};
 ghost use Rattle.seal.specs.Sizes.{sized};
 ghost use Rattle.seal.specs.Wrapping.{Unwrapped, Wrapped};
-ghost use Rattle.std.specs.Option.{option_map};
+ghost use Rattle.std.specs.Option.{option_copied};
 
 use crate::fault::SealFault;
 use crate::sizes::buffers_fit;
 use crate::watch::Watch;
 use block::Block;
 use cipher::Cipher;
-use mode::sealing::{load_key, seal};
+use mode::hbs::Hbs;
 use multiplier::Multiplier;
 
 /// Seals `text` in place under `key`, and writes the tag.
@@ -18,23 +18,20 @@ use multiplier::Multiplier;
 /// Refused by `Size` where the key, the header, the tag buffer or the text is not of a size that is taken;
 /// then nothing is altered. Else the cipher keeps the key, and the multiplier its hash key.
 pub fn wrap<C: Cipher, M: Multiplier>(
-    cipher: &mut C,
-    multiplier: &mut M,
+    hbs: &mut Hbs<C, M>,
     key: &[u8],
     header: Option<&[u8]>,
     tag: &mut [u8],
     text: &mut [u8],
 ) -> Result<(), SealFault>
-    ensures seals { Wrapped (C.scheme cipher.old) key.now (option_map (λ x. x.now) header.entry) tag.old text.old (answered result) tag.new text.new }
-    ensures keys { Keyed C.Cipher M.Multiplier (sized (C.scheme cipher.old) key.now (option_map (λ x. x.now) header.entry) tag.old text.old) key.now cipher.old multiplier.old cipher.new multiplier.new }
+    ensures seals { Wrapped (C.scheme hbs.old.cipher) key.now (option_copied header.entry) tag.old text.old (answered result) tag.new text.new }
+    ensures keys { Keyed C.Cipher M.Multiplier (sized (C.scheme hbs.old.cipher) key.now (option_copied header.entry) tag.old text.old) key.now hbs.old hbs.new }
 {
     if !buffers_fit(header, tag, text) {
         return Err(SealFault::Size);
     }
-    if !load_key(cipher, multiplier, key) {
-        return Err(SealFault::Size);
-    }
-    let sealed = seal(cipher, multiplier, header, text).to_bytes();
+    hbs.load(key)?;
+    let sealed = hbs.seal(header, text).to_bytes();
     tag.copy_from_slice(&sealed);
     Ok(())
 }
@@ -44,15 +41,14 @@ pub fn wrap<C: Cipher, M: Multiplier>(
 /// Refused by `Size` as `wrap` is, and by `Mismatch` where no message seals to the header, the tag and the
 /// text under that key. Whatever the refusal, every byte of `text` is then zero.
 pub fn unwrap<C: Cipher, M: Multiplier>(
-    cipher: &mut C,
-    multiplier: &mut M,
+    hbs: &mut Hbs<C, M>,
     key: &[u8],
     header: Option<&[u8]>,
     tag: &[u8],
     text: &mut [u8],
 ) -> Result<(), SealFault>
-    ensures opens { Unwrapped (C.scheme cipher.old) key.now (option_map (λ x. x.now) header.entry) tag.now text.old (answered result) text.new }
-    ensures keys { Keyed C.Cipher M.Multiplier (sized (C.scheme cipher.old) key.now (option_map (λ x. x.now) header.entry) tag.now text.old) key.now cipher.old multiplier.old cipher.new multiplier.new }
+    ensures opens { Unwrapped (C.scheme hbs.old.cipher) key.now (option_copied header.entry) tag.now text.old (answered result) text.new }
+    ensures keys { Keyed C.Cipher M.Multiplier (sized (C.scheme hbs.old.cipher) key.now (option_copied header.entry) tag.now text.old) key.now hbs.old hbs.new }
 {
     let mut watch = Watch {
         bytes: text,
@@ -61,12 +57,10 @@ pub fn unwrap<C: Cipher, M: Multiplier>(
     if !watch.fits(header, tag) {
         return Err(SealFault::Size);
     }
-    if !load_key(cipher, multiplier, key) {
-        return Err(SealFault::Size);
-    }
+    hbs.load(key)?;
     let mut bytes = [0; 16];
     bytes.copy_from_slice(tag);
-    if !watch.open(cipher, multiplier, header, Block::from_bytes(bytes)) {
+    if !watch.open(hbs, header, Block::from_bytes(bytes)) {
         return Err(SealFault::Mismatch);
     }
     Ok(())
