@@ -1,15 +1,13 @@
 -- What is read, from the pieces that the code takes off the buffer.
-use Rattle.std.proofs.Common.{◌≡◌, ℕ, ◌+◌, ◌-◌, ◌*◌, ◌≤◌, true, false, ◌&&◌, eqb, leb, List, length, get_or, take, drop, Ok, Err, sym, ap, ◌∙◌, subst, ap₂, add-zero, arith, length-drop}
+use Rattle.std.proofs.Common.{◌≡◌, ℕ, ◌+◌, ◌-◌, ◌*◌, ◌≤◌, ◌≢◌, List, length, get_or, take, drop, Ok, Err, sym, ap, ◌∙◌, subst, ap₂, add-zero, arith, length-drop}
 use Rattle.std.proofs.lemmas.List.{drop-drop, get_or-drop, take_rest}
 use Rattle.std.proofs.lemmas.Slice.{between_to_end}
-use Rattle.std.proofs.lemmas.Bool.{cond-true}
 use Rattle.std.proofs.lemmas.Bool.Decides.{nat_tests}
 use Rattle.telegram.specs.declared.fault.TelegramFault.TheVariants.{Lengths}
 use Rattle.telegram.specs.declared.parts.Fields.{Fields}
 use Rattle.telegram.specs.declared.parts.Places.{Places}
 use Rattle.telegram.specs.Calls.{Read, parts_of}
-use Rattle.telegram.specs.Format.{Parts, word, header_sized, header_length, message_length, parts, reading}
-use Rattle.telegram.specs.Header.{number, header_reading}
+use Rattle.telegram.specs.Format.{Parts, word, header_length, message_length, parts, reading}
 use Rattle.telegram.specs.Places.{layout, Lies}
 use Rattle.block.specs.Bytes.{AllBytes}
 use Rattle.telegram.proofs.Laws.{Passes, accepted, passed, header_long, ciphertext_long, same_parts, writes_back}
@@ -39,7 +37,7 @@ lies_there b p at is e =
 -- ---- the parts
 
 module _ (b : List ℕ) (h m : ℕ) (back : List ℕ)
-    (version : get_or b 0 0 ≡ 1) (header_is : h ≡ word b 1) (sized : header_sized h ≡ true)
+    (version : get_or b 0 0 ≡ 1) (header_is : h ≡ word b 1)
     (back_is : back ≡ drop h (take (length b - 3) (drop 3 b))) (pair : 2 ≤ length back)
     (message-is : m ≡ 256 * get_or back 0 0 + get_or back 1 0) where
   -- what is left behind the header, by its place in b
@@ -57,53 +55,46 @@ module _ (b : List ℕ) (h m : ℕ) (back : List ℕ)
       let lo : get_or back 1 0 ≡ get_or b (3 + h + 1) 0 = simp (behind, get_or-drop) in
       omega arith
 
+  -- the tag and the ciphertext, by their place in b
   sealed_there : take (length back - 2) (drop 2 back) ≡ drop (5 + h) b
   sealed_there = take_rest back 2 ∙ ap (drop 2) behind ∙ drop-drop 2 (3 + h) b ∙ ap (λ (n : ℕ). drop n b) (omega arith)
 
   sealed_long : length (take (length back - 2) (drop 2 back)) + (5 + h) ≡ length b
   sealed_long = simp (sealed_there, length-drop) (omega (arith, behind_long))
 
-  pub refused : (leb m 4096 && eqb (length (take (length back - 2) (drop 2 back))) (16 + m)) ≡ false → reading b ≡ Err Lengths
+  pub refused : length (take (length back - 2) (drop 2 back)) ≢ 16 + m → reading b ≡ Err Lengths
   refused misfit =
       let there = message_there in
       let long = sealed_long in
       grind (arith, nat_tests)
 
-  module _ (fit : (leb m 4096 && eqb (length (take (length back - 2) (drop 2 back))) (16 + m)) ≡ true) where
-    passes : Passes b h m
-    passes =
-        let long = sealed_long in
-        record {
-          version = version;
-          header = sym header_is;
-          message = message_there;
-          low = grind (arith, nat_tests);
-          high = grind (arith, nat_tests);
-          short = grind (arith, nat_tests);
-          sum = grind (arith, nat_tests);
-        }
-
-    pub read : (f : Fields) → AllBytes b → f.header.now ≡ take h (take (length b - 3) (drop 3 b))
-        → f.tag.now ≡ take 16 (take (length back - 2) (drop 2 back)) → f.ciphertext.now ≡ drop 16 (take (length back - 2) (drop 2 back))
-        → f.places ≡ layout h m → Read b f
-    read f all eh et ec ep =
-        let header : take (header_length b) (drop 3 b) ≡ f.header.now = sym (eh ∙ ap (take h) (take_rest b 3) ∙ ap (λ (n : ℕ). take n (drop 3 b)) header_is) in
-        let tag : take 16 (drop (5 + header_length b) b) ≡ f.tag.now = sym (et ∙ ap (take 16) sealed_there ∙ ap (λ (n : ℕ). take 16 (drop (5 + n) b)) header_is) in
-        let ciphertext : drop (21 + header_length b) b ≡ f.ciphertext.now =
-        sym (ec ∙ ap (drop 16) sealed_there ∙ drop-drop 16 (5 + h) b ∙ ap (λ (n : ℕ). drop n b) (omega arith)) in
-        let reads : reading b ≡ Ok (parts_of f) = accepted b h m passes ∙ ap Ok (same_parts (parts b) (parts_of f) header tag ciphertext) in
-        let header-size : h ≡ length f.header.now = sym (header_long b h m passes.sum) ∙ ap (λ (n : ℕ). length (take n (drop 3 b))) header_is ∙ ap length header in
-        let ciphertext-size : m ≡ length f.ciphertext.now = sym (ciphertext_long b h m passes.sum) ∙ ap (λ (n : ℕ). length (drop (21 + n) b)) header_is ∙ ap length ciphertext in
-        record {
-          reads = reads;
-          lies = lies_there b (parts_of f) f.places reads (ep ∙ ap₂ layout header-size ciphertext-size);
-          rewrites = writes_back b (parts_of f) all reads;
-        }
-
--- ---- a header
-
-pub header_read : (b : List ℕ) (s k : ℕ) (note : List ℕ) → header_sized (length b) ≡ true → s ≡ number b 1 → k ≡ get_or b 5 0 → note ≡ drop 6 b
-    → header_reading b ≡ Ok (record { gauge = get_or b 0 0; serial = s; kind = k; note = note })
-header_read b s k note sized es ek en =
-    cond-true _ _ _ sized
-    ∙ ap Ok cc
+  pub read : (f : Fields) → AllBytes b → (6 ≤ h) × (h ≤ 1024) → m ≤ 4096 → length (take (length back - 2) (drop 2 back)) ≡ 16 + m
+      → f.header.now ≡ take h (take (length b - 3) (drop 3 b))
+      → f.tag.now ≡ take 16 (take (length back - 2) (drop 2 back)) → f.ciphertext.now ≡ drop 16 (take (length back - 2) (drop 2 back))
+      → f.places ≡ layout h m → Read b f
+  read f all sized short fit eh et ec ep =
+      let long = sealed_long in
+      let passes : Passes b h m =
+      record {
+        version = version;
+        header = sym header_is;
+        message = message_there;
+        low = sized.0;
+        high = sized.1;
+        short = short;
+        sum = omega arith;
+      } in
+      let header : take h (drop 3 b) ≡ f.header.now = sym (eh ∙ ap (take h) (take_rest b 3)) in
+      let tag : take 16 (drop (5 + h) b) ≡ f.tag.now = sym (et ∙ ap (take 16) sealed_there) in
+      let ciphertext : drop (21 + h) b ≡ f.ciphertext.now =
+      sym (ec ∙ ap (drop 16) sealed_there ∙ drop-drop 16 (5 + h) b ∙ ap (λ (n : ℕ). drop n b) (omega arith)) in
+      let reads : reading b ≡ Ok (parts_of f) =
+      accepted b h m passes
+      ∙ ap Ok (same_parts (parts b) (parts_of f) (rw (← header_is) header) (rw (← header_is) tag) (rw (← header_is) ciphertext)) in
+      let header-size : h ≡ length f.header.now = sym (header_long b h m passes.sum) ∙ ap length header in
+      let ciphertext-size : m ≡ length f.ciphertext.now = sym (ciphertext_long b h m passes.sum) ∙ ap length ciphertext in
+      record {
+        reads = reads;
+        lies = lies_there b (parts_of f) f.places reads (ep ∙ ap₂ layout header-size ciphertext-size);
+        rewrites = writes_back b (parts_of f) all reads;
+      }

@@ -4,7 +4,7 @@ use borrow.Rule.Slice.PartMut.{put_mid, post_of}
 use Rattle.std.proofs.lemmas.List.{append-nil, drop_all, drop_at, drop-drop, take_at}
 use Rattle.std.proofs.lemmas.Bool.Decides.{nat_tests}
 use Rattle.telegram.specs.declared.parts.Places.{Places}
-use Rattle.telegram.specs.Calls.{header_writing, around, framing, Framed}
+use Rattle.telegram.specs.Calls.{around, framing, Framed}
 use Rattle.telegram.specs.Format.{Sized, two, written, reading}
 use Rattle.telegram.specs.Header.{Heading, four, header_bytes}
 use Rattle.telegram.specs.Places.{layout}
@@ -23,29 +23,26 @@ header_put out g s k note six rest es er =
     ∙ ap (λ r. front ++ (note ++ r)) (drop_all (length (front ++ left) - 6) left (omega arith))
     ∙ ap (λ r. front ++ r) (append-nil note)
 
-pub header_writes : (h : Heading) (out b : List ℕ) → length h.note ≤ 1018 → length out ≡ 6 + length h.note → b ≡ header_bytes h → header_writing h out ≡ Ok b
-header_writes h out b short long is =
-    let fits : header_writing h out ≡ Ok (header_bytes h) = grind (arith, nat_tests) in
-    fits ∙ ap Ok (sym is)
-
 -- ---- a frame
 
--- the version with the header's length, the header behind it, and then the message's length
-pub frame_put : (out header : List ℕ) (n m : ℕ) (front middle pair : List ℕ) → length header ≡ n → front ≡ 1 ∷ two n → middle ≡ header → pair ≡ two m
-    → put_mid (3 + n) (3 + n + 2 - (3 + n)) (put_mid 3 (3 + n - 3) (front ++ post_of 0 3 out) middle) pair
-    ≡ 1 ∷ (two n ++ (header ++ (two m ++ (take 16 (drop (5 + n) out) ++ drop (21 + n) out))))
-frame_put out header n m front middle pair long ef em ep =
+-- out is written over: the version with the header's length, the header behind it, and then the message's length
+abbrev pub put_frame : List ℕ → Places → (front middle pair : List ℕ) → List ℕ
+put_frame out at front middle pair =
+    put_mid at.header.end (at.tag.start - at.header.end) (put_mid 3 (at.header.end - 3) (front ++ post_of 0 3 out) middle) pair
+
+frame_put : (out header : List ℕ) (n m : ℕ) → length header ≡ n
+    → put_frame out (layout n m) (1 ∷ two n) header (two m) ≡ 1 ∷ (two n ++ (header ++ (two m ++ (take 16 (drop (5 + n) out) ++ drop (21 + n) out))))
+frame_put out header n m long =
     let header-size : 3 + n - 3 ≡ n = omega arith in
-    let pair_size : 3 + n + 2 - (3 + n) ≡ 2 = omega arith in
+    let pair_size : 5 + n - (3 + n) ≡ 2 = omega arith in
     let place : 3 + n + 2 ≡ 5 + n = omega arith in
     let start = 1 ∷ (two n ++ header) in
     let left = drop n (drop 3 out) in
     let sealed : drop 2 left ≡ take 16 (drop (5 + n) out) ++ drop (21 + n) out =
     ap (drop 2) (drop-drop n 3 out) ∙ drop-drop 2 (3 + n) out ∙ ap (λ (k : ℕ). drop k out) place ∙ sym (tag_ciphertext out n) in
-    ap₂ (λ a b. put_mid (3 + n) (3 + n + 2 - (3 + n)) (put_mid 3 (3 + n - 3) (a ++ drop 3 out) b) pair) ef em
-    ∙ ap₂ (λ (j k : ℕ). put_mid (3 + n) k (put_mid 3 j ((1 ∷ two n) ++ drop 3 out) header) pair) header-size pair_size
-    ∙ ap₂ (λ a b. a ++ (pair ++ drop 2 b)) (take_at start left (3 + n) (omega arith)) (drop_at start left (3 + n) (omega arith))
-    ∙ ap₂ (λ a b. 1 ∷ (two n ++ (header ++ (a ++ b)))) ep sealed
+    ap₂ (λ (j k : ℕ). put_mid (3 + n) k (put_mid 3 j ((1 ∷ two n) ++ drop 3 out) header) (two m)) header-size pair_size
+    ∙ ap₂ (λ a b. a ++ (two m ++ drop 2 b)) (take_at start left (3 + n) (omega arith)) (drop_at start left (3 + n) (omega arith))
+    ∙ ap (λ b. 1 ∷ (two n ++ (header ++ (two m ++ b)))) sealed
 
 module _ (h : Heading) (out : List ℕ) (n m : ℕ) (size : length (header_bytes h) ≡ n) (sum : length out ≡ 21 + n + m)
     (short : length h.note ≤ 1018) (message : m ≤ 4096) (serial : h.serial < 2 ^ 32) where
@@ -68,9 +65,12 @@ module _ (h : Heading) (out : List ℕ) (n m : ℕ) (size : length (header_bytes
         ciphertext = omega (arith, ciphertext_around);
       }
 
-  pub framed : (at : Places) (b : List ℕ) → at ≡ layout n m → b ≡ 1 ∷ (two n ++ (header_bytes h ++ (two m ++ (take 16 (drop (5 + n) out) ++ drop (21 + n) out)))) → Framed h out at b
-  framed at b at-is b-is =
-      let writes : b ≡ written (around h out) = b-is ∙ sym around-written in
+  pub framed : (at : Places) (front middle pair : List ℕ) → at ≡ layout n m → front ≡ 1 ∷ two n → middle ≡ header_bytes h → pair ≡ two m
+      → Framed h out at (put_frame out at front middle pair)
+  framed at front middle pair at-is ef em ep =
+      let b = put_frame out at front middle pair in
+      let puts : b ≡ put_frame out (layout n m) (1 ∷ two n) (header_bytes h) (two m) = cc in
+      let writes : b ≡ written (around h out) = puts ∙ frame_put out (header_bytes h) n m size ∙ sym around-written in
       let reads : reading b ≡ Ok (around h out) = ap reading writes ∙ reads_back (around h out) sized-around in
       let fits : framing h out ≡ Ok (written (around h out)) = grind (arith, nat_tests) in
       record {

@@ -8,9 +8,9 @@ use std::fmt;
 #[derive(Clone, Copy, PartialEq, Eq, Debug)]
 pub enum TelegramFault {
     /// The first byte is not the version that is read.
-    Version,
+    Version = 6,
     /// A length is out of its range, or the lengths do not add up to the buffer's.
-    Lengths,
+    Lengths = 7,
 }
 
 impl TelegramFault {
@@ -18,10 +18,7 @@ impl TelegramFault {
     pub fn number(self) -> u32
         ensures { result ≡ refusal self }
     {
-        match self {
-            TelegramFault::Version => 6,
-            TelegramFault::Lengths => 7,
-        }
+        self as u32
     }
 
     /// What is wrong, in words.

@@ -1,8 +1,9 @@
 // A telegram's header.
-ghost use Rattle.std.specs.Prelude.{◌≡◌, ◌+◌, ◌*◌, ◌^◌, ◌<◌, [], ◌∷◌, ◌++◌, length, IfOk, Ok, Err, MatchResult, OnOk};
+ghost use Rattle.std.specs.Prelude.{◌≡◌, ◌+◌, ◌*◌, ◌^◌, ◌<◌, ◌≤◌, [], ◌∷◌, ◌++◌, length, IfOk, Ok, Err, MatchResult, OnOk};
 ghost use Rattle.telegram.specs.Calls.{header_writing};
 ghost use Rattle.telegram.specs.Header.{four, header_bytes, header_reading, heading};
 ghost use Rattle.telegram.specs.Kind.{kind_byte};
+ghost use Rattle.telegram.specs.declared.fault.TelegramFault.TheVariants.{Lengths};
 
 use crate::fault::TelegramFault;
 pub use crate::kind::Kind;
@@ -16,13 +17,6 @@ pub struct Header<'a> {
     pub note: &'a [u8],
 }
 
-/// The serial that four bytes spell, the highest first.
-fn serial_of(s3: u8, s2: u8, s1: u8, s0: u8) -> u32
-    ensures { result ≡ 2 ^ 24 * s3 + 2 ^ 16 * s2 + 2 ^ 8 * s1 + s0 }
-{
-    u32::from_be_bytes([s3, s2, s1, s0])
-}
-
 impl Header<'_> {
     /// Reads a header. Refused by `Lengths` where it has not 6 to 1,024 bytes.
     pub fn read(bytes: &[u8]) -> Result<Header<'_>, TelegramFault>
@@ -32,7 +26,7 @@ impl Header<'_> {
         match bytes {
             [gauge, s3, s2, s1, s0, kind, note @ ..] if header_fits(bytes.len()) => Ok(Header {
                 gauge: *gauge,
-                serial: serial_of(*s3, *s2, *s1, *s0),
+                serial: u32::from_be_bytes([*s3, *s2, *s1, *s0]),
                 kind: Kind::from(*kind),
                 note,
             }),
@@ -46,11 +40,21 @@ impl Header<'_> {
         ensures writes { MatchResult result (λ _. header_writing (heading self.now) out.old ≡ Ok out.new) (λ fault. (header_writing (heading self.now) out.old ≡ Err fault) × (out.new ≡ out.old)) }
         ensures reads { OnOk result (header_reading out.new ≡ Ok (heading self.now)) }
     {
-        if self.note.len() > MAX_NOTE || out.len() != MIN_HEADER + self.note.len() {
+        if out.len() != self.size()? {
             return Err(TelegramFault::Lengths);
         }
         self.put(out);
         Ok(())
+    }
+
+    /// How long the header is. Refused by `Lengths` where the note is too long.
+    pub(crate) fn size(&self) -> Result<usize, TelegramFault>
+        ensures { MatchResult result (λ n. (n ≡ 6 + length self.now.note.now) × (n ≤ 1024)) (λ fault. (fault ≡ Lengths) × (1018 < length self.now.note.now)) }
+    {
+        if self.note.len() > MAX_NOTE {
+            return Err(TelegramFault::Lengths);
+        }
+        Ok(MIN_HEADER + self.note.len())
     }
 
     /// The bytes before the note.

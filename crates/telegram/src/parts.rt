@@ -1,8 +1,8 @@
 // The parts of a telegram, and where they lie in its buffer.
-ghost use Rattle.std.specs.Prelude.{◌≡◌, ◌≤◌};
 ghost use Rattle.telegram.specs.Places.{layout};
+ghost use Rattle.std.specs.Prelude.{◌≡◌};
 
-use crate::sizes::{HEADER_START, TAG_BYTES};
+use crate::sizes::{HEADER_START, Sizes, TAG_BYTES};
 
 /// Bytes of a buffer, from `start` up to and without `end`.
 #[derive(Clone, Copy, PartialEq, Eq, Debug)]
@@ -28,15 +28,13 @@ pub struct Fields<'a> {
     pub places: Places,
 }
 
-impl Places {
-    /// The places in a telegram with a header and a message of these lengths.
-    pub(crate) fn new(header_len: usize, message_len: usize) -> Places
-        requires { (header_len ≤ 1024) × (message_len ≤ 4096) }
-        ensures { result ≡ layout header_len message_len }
-    {
+impl From<Sizes> for Places {
+    ghost from_gives = { λ sizes places. places ≡ layout sizes.header sizes.message };
+
+    fn from(sizes: Sizes) -> Places {
         let header = Place {
             start: HEADER_START,
-            end: HEADER_START + header_len,
+            end: HEADER_START + sizes.header,
         };
         let tag = Place {
             start: header.end + 2,
@@ -47,7 +45,7 @@ impl Places {
             tag,
             ciphertext: Place {
                 start: tag.end,
-                end: tag.end + message_len,
+                end: tag.end + sizes.message,
             },
         }
     }

@@ -5,7 +5,7 @@ ghost use Rattle.telegram.specs.Format.{reading};
 
 use crate::fault::TelegramFault;
 use crate::parts::{Fields, Places};
-use crate::sizes::{TAG_BYTES, header_fits, length_of, sealed_fits};
+use crate::sizes::{Sizes, TAG_BYTES, length_of};
 
 /// The version that is read and written.
 pub const VERSION: u8 = 1;
@@ -18,19 +18,15 @@ pub fn fields(buffer: &[u8]) -> Result<Fields<'_>, TelegramFault>
     ensures { MatchResult result (Read buffer.now) (λ fault. reading buffer.now ≡ Err fault) }
 {
     let (header_len, rest) = match buffer {
-        [version, hi, lo, rest @ ..] if *version == VERSION => (length_of(*hi, *lo), rest),
-        [version, ..] if *version != VERSION => return Err(TelegramFault::Version),
-        _ => return Err(TelegramFault::Lengths),
+        [VERSION, hi, lo, rest @ ..] => (length_of(*hi, *lo), rest),
+        [] | [VERSION, ..] => return Err(TelegramFault::Lengths),
+        _ => return Err(TelegramFault::Version),
     };
-    if !header_fits(header_len) || rest.len() < header_len {
-        return Err(TelegramFault::Lengths);
-    }
-    let (header, rest) = rest.split_at(header_len);
-    let [hi, lo, sealed @ ..] = rest else {
+    let Some((header, [hi, lo, sealed @ ..])) = rest.split_at_checked(header_len) else {
         return Err(TelegramFault::Lengths);
     };
-    let message_len = length_of(*hi, *lo);
-    if !sealed_fits(sealed.len(), message_len) {
+    let sizes = Sizes::new(header_len, length_of(*hi, *lo))?;
+    if sealed.len() != TAG_BYTES + sizes.message {
         return Err(TelegramFault::Lengths);
     }
     let (tag, ciphertext) = sealed.split_at(TAG_BYTES);
@@ -38,6 +34,6 @@ pub fn fields(buffer: &[u8]) -> Result<Fields<'_>, TelegramFault>
         header,
         tag,
         ciphertext,
-        places: Places::new(header_len, message_len),
+        places: Places::from(sizes),
     })
 }

@@ -1,5 +1,5 @@
 // The sizes of a telegram's parts, and lengths as a telegram writes them.
-ghost use Rattle.std.specs.Prelude.{◌≡◌, ◌+◌, ◌*◌, ◌^◌, ◌<◌, ◌≤◌, false, ◌&&◌, MatchResult, ◌==◌, nat_le};
+ghost use Rattle.std.specs.Prelude.{◌≡◌, ◌+◌, ◌*◌, ◌^◌, ◌<◌, ◌≤◌, false, MatchResult, ◌&&◌, nat_le};
 ghost use Rattle.telegram.specs.Calls.{roomy};
 ghost use Rattle.telegram.specs.Format.{header_sized, two};
 ghost use Rattle.telegram.specs.declared.fault.TelegramFault.TheVariants.{Lengths};
@@ -27,32 +27,44 @@ pub const HEADER_START: usize = 3;
 /// The bytes of a telegram that belong neither to its header nor to its ciphertext.
 pub const FIXED_BYTES: usize = HEADER_START + 2 + TAG_BYTES;
 
+/// The lengths of a telegram's header and message, each in its range.
+#[derive(Clone, Copy, PartialEq, Eq, Debug)]
+pub struct Sizes {
+    pub header: usize,
+    pub message: usize,
+    ghost header_sized: { (6 ≤ header) × (header ≤ 1024) },
+    ghost message_short: { message ≤ 4096 },
+}
+
+impl Sizes {
+    /// Refused by `Lengths` where a length is out of its range.
+    pub fn new(header: usize, message: usize) -> Result<Sizes, TelegramFault>
+        ensures { MatchResult result (λ sizes. (sizes.header ≡ header) × (sizes.message ≡ message)) (λ fault. (fault ≡ Lengths) × ((header_sized header && nat_le message 4096) ≡ false)) }
+    {
+        if header_fits(header) && message <= MAX_MESSAGE {
+            Ok(Sizes { header, message })
+        } else {
+            Err(TelegramFault::Lengths)
+        }
+    }
+
+    /// The sizes in a telegram of `len` bytes with a header of `header`: the message is as long as what they leave.
+    pub(crate) fn filling(header: usize, len: usize) -> Result<Sizes, TelegramFault>
+        ensures { MatchResult result (λ sizes. (sizes.header ≡ header) × (len ≡ 21 + header + sizes.message)) (λ fault. (fault ≡ Lengths) × (6 ≤ header → roomy header len ≡ false)) }
+    {
+        let message = len
+            .checked_sub(FIXED_BYTES)
+            .and_then(|behind| behind.checked_sub(header))
+            .ok_or(TelegramFault::Lengths)?;
+        Sizes::new(header, message)
+    }
+}
+
 /// Whether a header may have `len` bytes.
 pub(crate) fn header_fits(len: usize) -> bool
     ensures { result ≡ header_sized len }
 {
-    len >= MIN_HEADER && len <= MAX_HEADER
-}
-
-/// Whether `len` bytes are a tag and the ciphertext of a message of `message_len` bytes.
-pub(crate) fn sealed_fits(len: usize, message_len: usize) -> bool
-    ensures { result ≡ (nat_le message_len 4096 && len == 16 + message_len) }
-{
-    message_len <= MAX_MESSAGE && len == TAG_BYTES + message_len
-}
-
-/// How long a message a telegram of `len` bytes has, whose note has `note_len`.
-pub(crate) fn message_room(note_len: usize, len: usize) -> Result<usize, TelegramFault>
-    ensures { MatchResult result (λ m. (note_len ≤ 1018) × (len ≡ 27 + note_len + m) × (m ≤ 4096)) (λ fault. (fault ≡ Lengths) × (roomy (6 + note_len) len ≡ false)) }
-{
-    if note_len > MAX_NOTE {
-        return Err(TelegramFault::Lengths);
-    }
-    let frame = FIXED_BYTES + MIN_HEADER + note_len;
-    if len < frame || len - frame > MAX_MESSAGE {
-        return Err(TelegramFault::Lengths);
-    }
-    Ok(len - frame)
+    (MIN_HEADER..=MAX_HEADER).contains(&len)
 }
 
 /// The number that two bytes spell, the high one first.

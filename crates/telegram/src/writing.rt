@@ -7,7 +7,7 @@ use crate::fault::TelegramFault;
 use crate::header::Header;
 use crate::parts::Places;
 use crate::reading::VERSION;
-use crate::sizes::{HEADER_START, MAX_MESSAGE, MAX_NOTE, MIN_HEADER, length_bytes, message_room};
+use crate::sizes::{HEADER_START, Sizes, length_bytes};
 
 /// Where the parts lie in a telegram with this header and a message of `message_len` bytes. The telegram ends with its
 /// ciphertext.
@@ -16,10 +16,8 @@ use crate::sizes::{HEADER_START, MAX_MESSAGE, MAX_NOTE, MIN_HEADER, length_bytes
 pub fn places(header: &Header<'_>, message_len: usize) -> Result<Places, TelegramFault>
     ensures { result ≡ placing (length header.now.note.now) message_len }
 {
-    if header.note.len() > MAX_NOTE || message_len > MAX_MESSAGE {
-        return Err(TelegramFault::Lengths);
-    }
-    Ok(Places::new(MIN_HEADER + header.note.len(), message_len))
+    let sizes = Sizes::new(header.size()?, message_len)?;
+    Ok(Places::from(sizes))
 }
 
 /// Writes the frame of a telegram that fills `out`: all but the tag and the ciphertext, which stay as they stand.
@@ -29,12 +27,11 @@ pub fn places(header: &Header<'_>, message_len: usize) -> Result<Places, Telegra
 pub fn write_frame(out: &mut [u8], header: &Header<'_>) -> Result<Places, TelegramFault>
     ensures { MatchResult result (λ places. Framed (heading header.now) out.old places out.new) (λ fault. (framing (heading header.now) out.old ≡ Err fault) × (out.new ≡ out.old)) }
 {
-    let message_len = message_room(header.note.len(), out.len())?;
-    let header_len = MIN_HEADER + header.note.len();
-    let header_end = HEADER_START + header_len;
-    let [hi, lo] = length_bytes(header_len);
+    let sizes = Sizes::filling(header.size()?, out.len())?;
+    let places = Places::from(sizes);
+    let [hi, lo] = length_bytes(sizes.header);
     out[0..HEADER_START].copy_from_slice(&[VERSION, hi, lo]);
-    header.put(&mut out[HEADER_START..header_end]);
-    out[header_end..header_end + 2].copy_from_slice(&length_bytes(message_len));
-    Ok(Places::new(header_len, message_len))
+    header.put(&mut out[HEADER_START..places.header.end]);
+    out[places.header.end..places.tag.start].copy_from_slice(&length_bytes(sizes.message));
+    Ok(places)
 }
