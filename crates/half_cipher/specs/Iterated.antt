@@ -1,9 +1,12 @@
 -- Rounds undone, where each round is.
-use Rattle.std.specs.Prelude.{◌≡◌}
-use Rattle.std.proofs.Math.Path.{refl, ap}
-use Rattle.std.proofs.Common.{◌∙◌, add-one, arith}
-use Prim.Native.Nat.{ℕ, zero, suc, ◌+◌, ◌-◌, ◌<◌, ◌≤◌}
-use Rattle.half_cipher.specs.Rounds.{rounds, unrounds}
+use Rattle.std.specs.Prelude.{◌≡◌, ℕ, zero, suc, ◌+◌, ◌-◌, ◌<◌, ◌≤◌, List, [], ◌∷◌, ◌++◌, map, reverse, fold}
+use Rattle.std.specs.Borrow.{Bor}
+use Rattle.std.proofs.Common.{refl, sym, ap, ◌∙◌, add-one, zero-add, arith}
+use Rattle.std.proofs.lemmas.List.{reverse-append}
+use Rattle.std.proofs.lemmas.List.FromFn.{map-range_with_len_more}
+use Rattle.std.proofs.lemmas.List.Folds.{fold-map}
+use Rattle.std.proofs.lemmas.List.Sums.{fold-append}
+use Rattle.half_cipher.specs.Rounds.{rounds, unrounds, keys_of}
 
 -- one round more
 pub rounds_more : {A : Type 0} (f : ℕ → A → A) (i : ℕ) (x : A) → rounds f (i + 1) x ≡ f i (rounds f i x)
@@ -20,6 +23,36 @@ pub unrounds_none : {A : Type 0} (g : ℕ → A → A) (i : ℕ) (x : A) → i �
 unfolding unrounds
 unrounds_none g zero x h = refl
 unrounds_none g (suc i) x h = absurd (omega arith)
+
+-- ---- over a list of the rounds' keys
+
+module _ {K A : Type 0} (key : ℕ → K) (f : K → A → A) where
+  keys_more : (n : ℕ) → keys_of key (suc n) ≡ keys_of key n ++ (key n ∷ [])
+  unfolding keys_of
+  keys_more n = ap (keys_of key) (sym (add-one n)) ∙ map-range_with_len_more key 0 n n (zero-add n)
+
+  pub rounds_fold : (n : ℕ) (x : A) → fold (λ x k. f k x) x (keys_of key n) ≡ rounds (λ i. f (key i)) n x
+  unfolding rounds keys_of
+  rounds_fold zero x = refl
+  rounds_fold (suc n) x =
+      ap (fold (λ x k. f k x) x) (keys_more n) ∙ fold-append (λ x k. f k x) x (keys_of key n) (key n ∷ []) ∙ ap (f (key n)) (rounds_fold n x)
+
+  pub unrounds_fold : (n : ℕ) (x : A) → fold (λ x k. f k x) x (reverse (keys_of key n)) ≡ unrounds (λ i. f (key i)) n x
+  unfolding unrounds keys_of
+  unrounds_fold zero x = refl
+  unrounds_fold (suc n) x =
+      ap (λ ks. fold (λ x k. f k x) x (reverse ks)) (keys_more n) ∙ ap (fold (λ x k. f k x) x) (reverse-append (keys_of key n) (key n ∷ [])) ∙ unrounds_fold n (f (key n) x)
+
+  -- the same, where the keys are read through references
+  pub rounds_read : (n : ℕ) (x : A) (items : List (Bor K)) → map (λ y. y.now) items ≡ keys_of key n
+      → fold (λ x y. f y.now x) x items ≡ rounds (λ i. f (key i)) n x
+  rounds_read n x items e =
+      sym (fold-map (λ x k. f k x) (λ y. y.now) x items) ∙ ap (fold (λ x k. f k x) x) e ∙ rounds_fold n x
+
+  pub unrounds_read : (n : ℕ) (x : A) (items : List (Bor K)) → map (λ y. y.now) items ≡ reverse (keys_of key n)
+      → fold (λ x y. f y.now x) x items ≡ unrounds (λ i. f (key i)) n x
+  unrounds_read n x items e =
+      sym (fold-map (λ x k. f k x) (λ y. y.now) x items) ∙ ap (fold (λ x k. f k x) x) e ∙ unrounds_fold n x
 
 -- ---- of values of which P holds, for the rounds f, and g which undoes them
 

@@ -1,5 +1,6 @@
 -- Rounds, each by its number from 0.
-use Rattle.std.specs.Prelude.{ℕ, zero, suc}
+use Rattle.std.specs.Prelude.{ℕ, zero, suc, List, map}
+use Rattle.std.specs.List.{range_with_len}
 
 -- the first n rounds
 unfoldable pub rounds : {A : Type 0} → (ℕ → A → A) → ℕ → A → A
@@ -10,3 +11,7 @@ rounds f (suc n) x = f n (rounds f n x)
 unfoldable pub unrounds : {A : Type 0} → (ℕ → A → A) → ℕ → A → A
 unrounds g zero x = x
 unrounds g (suc n) x = unrounds g n (g n x)
+
+-- the keys of the first n rounds, in order
+unfoldable pub keys_of : {K : Type 0} → (ℕ → K) → ℕ → List K
+keys_of key n = map key (range_with_len 0 n)

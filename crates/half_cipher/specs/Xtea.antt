@@ -14,12 +14,16 @@ mixed v sum k = bit_xor (add (bit_xor (shift_left 4 v) (shift_right 5 v)) v) (ad
 abbrev pub sum_at : ℕ → ℕ
 sum_at i = i * 0x9e3779b9 % 2 ^ 32
 
+-- what v adds to the other word, under the word of the key that the two lowest bits of c name
+abbrev pub addend : List ℕ → ℕ → ℕ → ℕ → ℕ
+addend k sum c v = mixed v sum (get_or k (bit_and c 3) 0)
+
 -- what is added to v0, and what to v1
 abbrev pub first_addend : List ℕ → ℕ → ℕ → ℕ
-first_addend k sum v1 = mixed v1 sum (get_or k (bit_and sum 3) 0)
+first_addend k sum v1 = addend k sum sum v1
 
 abbrev pub second_addend : List ℕ → ℕ → ℕ → ℕ
-second_addend k sum v0 = mixed v0 sum (get_or k (bit_and (shift_right 11 sum) 3) 0)
+second_addend k sum v0 = addend k sum (shift_right 11 sum) v0
 
 -- a cycle, with the sum before it and the sum after it
 abbrev pub cycle : List ℕ → ℕ → ℕ → ℕ × ℕ → ℕ × ℕ

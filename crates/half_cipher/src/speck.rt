@@ -1,4 +1,5 @@
 // Speck64/128 (Beaulieu, Shors, Smith, Treatman-Clark, Weeks and Wingers, 2013).
+ghost use Rattle.half_cipher.specs.Rounds.{keys_of};
 ghost use Rattle.half_cipher.specs.Speck.{Schedule, first, next, round, round_key, speck, unround};
 ghost use Rattle.half_cipher.specs.Words.{words_of_key};
 ghost use Rattle.std.specs.Prelude.{ℕ, ◌<◌, get_or, ◌≡◌};
@@ -16,24 +17,27 @@ pub struct Speck64;
 fn round(k: u32, v: Words) -> Words
     ensures { result ≡ round k v }
 {
-    let x = v.0.rotate_right(8).wrapping_add(v.1) ^ k;
-    (x, v.1.rotate_left(3) ^ x)
+    let (x, y) = v;
+    let x = x.rotate_right(8).wrapping_add(y) ^ k;
+    (x, y.rotate_left(3) ^ x)
 }
 
 /// One round undone.
 fn undo_round(k: u32, v: Words) -> Words
     ensures { result ≡ unround k v }
 {
-    let y = (v.1 ^ v.0).rotate_right(3);
-    ((v.0 ^ k).wrapping_sub(y).rotate_left(8), y)
+    let (x, y) = v;
+    let y = (y ^ x).rotate_right(3);
+    ((x ^ k).wrapping_sub(y).rotate_left(8), y)
 }
 
 /// The keys of the rounds. The schedule is the round itself, on l and k, with the round's number in the place of its key.
-fn round_keys(key: &HalfKey) -> [u32; 27]
-    ensures { (i : ℕ) → i < 27 → get_or result i 0 ≡ round_key (words_of_key key.now) i }
+fn round_keys(key: &HalfKey) -> [u32; ROUNDS]
+    ensures { result ≡ keys_of (round_key (words_of_key key.now)) ROUNDS }
 {
     let [mut l2, mut l1, mut l0, mut k] = key_words(key);
-    let mut keys = [0; 27];
+    let mut keys = [0; ROUNDS];
+    // a loop by number: the number is what the round takes in place of its key
     for i in 0..ROUNDS {
         keys[i] = k;
         let (l, next) = round(i as u32, (l0, k));
@@ -52,19 +56,11 @@ impl HalfCipher for Speck64 {
 
     fn forward(&self, key: &HalfKey, half: u64) -> u64 {
         let keys = round_keys(key);
-        let mut v = split(half);
-        for i in 0..ROUNDS {
-            v = round(keys[i], v);
-        }
-        join(v)
+        join(keys.iter().fold(split(half), |v, k| round(*k, v)))
     }
 
     fn backward(&self, key: &HalfKey, half: u64) -> u64 {
         let keys = round_keys(key);
-        let mut v = split(half);
-        for i in (0..ROUNDS).rev() {
-            v = undo_round(keys[i], v);
-        }
-        join(v)
+        join(keys.iter().rfold(split(half), |v, k| undo_round(*k, v)))
     }
 }

@@ -1,5 +1,5 @@
 // XTEA with 32 cycles (Needham and Wheeler, 1997).
-ghost use Rattle.half_cipher.specs.Xtea.{cycle, mixed, sum_at, first_addend, second_addend, uncycle, xtea};
+ghost use Rattle.half_cipher.specs.Xtea.{addend, cycle, mixed, sum_at, uncycle, xtea};
 ghost use Rattle.std.specs.Prelude.{◌≡◌};
 ghost use Rattle.half_cipher.specs.XteaLaws.{xtea_lawful};
 
@@ -20,18 +20,11 @@ fn mix(v: u32, sum: u32, k: u32) -> u32
     ((v << 4) ^ (v >> 5)).wrapping_add(v) ^ sum.wrapping_add(k)
 }
 
-/// What is added to the first word.
-fn to_first(k: &[u32; 4], sum: u32, v1: u32) -> u32
-    ensures { result ≡ first_addend k.now sum v1 }
+/// What one word adds to the other, under the sum and the word of the key that two bits of `choice` name.
+fn addend(k: &[u32; 4], sum: u32, choice: u32, v: u32) -> u32
+    ensures { result ≡ addend k.now sum choice v }
 {
-    mix(v1, sum, k[(sum & 3) as usize])
-}
-
-/// What is added to the second word.
-fn to_second(k: &[u32; 4], sum: u32, v0: u32) -> u32
-    ensures { result ≡ second_addend k.now sum v0 }
-{
-    mix(v0, sum, k[((sum >> 11) & 3) as usize])
+    mix(v, sum, k[(choice & 3) as usize])
 }
 
 /// The sum before cycle `i`.
@@ -45,8 +38,9 @@ fn sum_at(i: u32) -> u32
 fn cycle_at(k: &[u32; 4], before: u32, after: u32, v: Words) -> Words
     ensures { result ≡ cycle k.now before after v }
 {
-    let v0 = v.0.wrapping_add(to_first(k, before, v.1));
-    let v1 = v.1.wrapping_add(to_second(k, after, v0));
+    let (v0, v1) = v;
+    let v0 = v0.wrapping_add(addend(k, before, before, v1));
+    let v1 = v1.wrapping_add(addend(k, after, after >> 11, v0));
     (v0, v1)
 }
 
@@ -54,8 +48,9 @@ fn cycle_at(k: &[u32; 4], before: u32, after: u32, v: Words) -> Words
 fn undo_cycle(k: &[u32; 4], before: u32, after: u32, v: Words) -> Words
     ensures { result ≡ uncycle k.now before after v }
 {
-    let v1 = v.1.wrapping_sub(to_second(k, after, v.0));
-    let v0 = v.0.wrapping_sub(to_first(k, before, v1));
+    let (v0, v1) = v;
+    let v1 = v1.wrapping_sub(addend(k, after, after >> 11, v0));
+    let v0 = v0.wrapping_sub(addend(k, before, before, v1));
     (v0, v1)
 }
 
@@ -67,6 +62,7 @@ impl HalfCipher for Xtea {
     fn forward(&self, key: &HalfKey, half: u64) -> u64 {
         let k = key_words(key);
         let mut v = split(half);
+        // a loop by number: the number of a cycle gives its two sums
         for i in 0..CYCLES {
             v = cycle_at(&k, sum_at(i), sum_at(i + 1), v);
         }
@@ -76,6 +72,7 @@ impl HalfCipher for Xtea {
     fn backward(&self, key: &HalfKey, half: u64) -> u64 {
         let k = key_words(key);
         let mut v = split(half);
+        // by number again, from the last
         for i in (0..CYCLES).rev() {
             v = undo_cycle(&k, sum_at(i), sum_at(i + 1), v);
         }

@@ -1,16 +1,15 @@
 // A block cipher from a half cipher, by six rounds of Feistel's.
 #![tactic(auto)]
 
-ghost use Rattle.std.specs.Prelude.{◌*◌, ◌+◌, ◌<◌, replicate, ◌≡◌};
+ghost use Rattle.std.specs.Prelude.{replicate, ◌≡◌};
 ghost use Rattle.block.specs.Num.{num};
-ghost use Rattle.wide.specs.Wide.{mixed, round, subkey, unround, wide};
+ghost use Rattle.half_cipher.specs.Rounds.{keys_of};
+ghost use Rattle.wide.specs.Wide.{mixed_under, pair_of, round_under, unround_under, wide};
 ghost use Rattle.wide.specs.WideLaws.{wide_lawful};
 
 use block::{Block, Halves};
-use cipher::Cipher;
+use cipher::{Cipher, WrongKeyLen};
 use half_cipher::{HalfCipher, HalfKey};
-
-const ROUNDS: usize = 6;
 
 /// Takes blocks through six rounds, each of them under two keys of the half cipher; its own key is the twelve of them.
 #[derive(Drop)]
@@ -31,42 +30,37 @@ impl<H> Wide<H> {
         }
     }
 
-    /// The key of the half cipher at place `i`.
-    fn half_key(&self, i: usize) -> HalfKey
-        requires { i < 12 }
-        ensures { result ≡ subkey self.now.key i }
+    /// The keys of the rounds, two for each.
+    fn round_keys(&self) -> &[[HalfKey; 2]]
+        ensures { result.now ≡ keys_of (pair_of self.now.key) 6 }
     {
-        let mut key = [0; 16];
-        key.copy_from_slice(&self.key[16 * i..16 * i + 16]);
-        key
+        let (half_keys, _) = self.key.as_chunks::<16>();
+        let (pairs, _) = half_keys.as_chunks::<2>();
+        pairs
     }
 }
 
 impl<H: HalfCipher> Wide<H> {
-    /// What round `i` makes of a half.
-    fn mixed(&self, i: usize, half: u64) -> u64
-        requires { i < 6 }
-        ensures { result ≡ mixed (H.maps self.now.half_cipher).forward self.now.key i half }
+    /// What a round makes of a half under its two keys.
+    fn mixed(&self, keys: &[HalfKey; 2], half: u64) -> u64
+        ensures { result ≡ mixed_under (H.maps self.now.half_cipher).forward keys.now half }
     {
-        let even = self.half_key(2 * i);
-        let odd = self.half_key(2 * i + 1);
-        self.half_cipher.forward(&even, half) ^ self.half_cipher.forward(&odd, half)
+        let [even, odd] = keys;
+        self.half_cipher.forward(even, half) ^ self.half_cipher.forward(odd, half)
     }
 
-    fn round(&self, i: usize, halves: Halves) -> Halves
-        requires { i < 6 }
-        ensures { result ≡ round (H.maps self.now.half_cipher).forward self.now.key i halves }
+    fn round(&self, keys: &[HalfKey; 2], halves: Halves) -> Halves
+        ensures { result ≡ round_under (H.maps self.now.half_cipher).forward keys.now halves }
     {
         let (a, b) = halves;
-        (b, a ^ self.mixed(i, b))
+        (b, a ^ self.mixed(keys, b))
     }
 
-    fn undo_round(&self, i: usize, halves: Halves) -> Halves
-        requires { i < 6 }
-        ensures { result ≡ unround (H.maps self.now.half_cipher).forward self.now.key i halves }
+    fn undo_round(&self, keys: &[HalfKey; 2], halves: Halves) -> Halves
+        ensures { result ≡ unround_under (H.maps self.now.half_cipher).forward keys.now halves }
     {
         let (a, b) = halves;
-        (b ^ self.mixed(i, a), a)
+        (b ^ self.mixed(keys, a), a)
     }
 }
 
@@ -81,29 +75,24 @@ impl<H: HalfCipher> Cipher for Wide<H> {
         self.key.len()
     }
 
-    fn load(&mut self, key: &[u8]) -> bool {
-        match <[u8; 192]>::try_from(key) {
-            Ok(bytes) => {
-                self.key = bytes;
-                true
-            }
-            Err(_) => false,
-        }
+    fn load(&mut self, key: &[u8]) -> Result<(), WrongKeyLen> {
+        self.key = <[u8; 192]>::try_from(key)?;
+        Ok(())
     }
 
     fn encipher(&self, block: Block) -> Block {
-        let mut halves = block.halves();
-        for i in 0..ROUNDS {
-            halves = self.round(i, halves);
-        }
+        let halves = self
+            .round_keys()
+            .iter()
+            .fold(block.halves(), |halves, keys| self.round(keys, halves));
         Block::from_halves(halves)
     }
 
     fn decipher(&self, block: Block) -> Block {
-        let mut halves = block.halves();
-        for i in (0..ROUNDS).rev() {
-            halves = self.undo_round(i, halves);
-        }
+        let halves = self.round_keys().iter().rfold(
+            block.halves(),
+            |halves, keys| self.undo_round(keys, halves),
+        );
         Block::from_halves(halves)
     }
 }

@@ -1,12 +1,7 @@
-use mathlib.Core.Logic.{◌≢◌}
-use mathlib.Core.Path.{refl, sym, ap, ◌∙◌}
-use Prim.Native.Nat.{ℕ, ◌<◌}
-use native.Mathlib.Omega.{arith}
-use borrow.Author.Count.{below_more}
-use lib.ListN.{length, length-set}
-use lib.Seq.{get_or-set_same, get_or-set_other}
-use Rattle.half_cipher.specs.Rounds.{rounds}
-use Rattle.half_cipher.specs.Speck.{Schedule, first, next}
+use Rattle.std.proofs.Common.{◌≢◌, ℕ, ◌<◌, length, refl, sym, ap, ◌∙◌, arith, below_more, length-set, get_or-set_same, get_or-set_other, rules}
+use Rattle.std.proofs.lemmas.List.FromFn.{fill_by_all}
+use Rattle.half_cipher.specs.Rounds.{keys_of, rounds}
+use Rattle.half_cipher.specs.Speck.{Schedule, first, next, round_key}
 use Rattle.half_cipher.specs.Words.{words_of_key}
 use Rattle.half_cipher.specs.Iterated.{rounds_more}
 use Rattle.half_cipher.proofs.speck.round_keys.Goals as goal
@@ -27,3 +22,8 @@ loop-i-preserved c =
           (λ j h. let other : j ≢ i = omega arith in rw get_or-set_other (c.loop-i.invariant.2 j h))
           (let within : i < length keys = omega arith in rw get_or-set_same (ap (λ (s : Schedule). s.k) c.loop-i.invariant.1)),
     )
+
+pub returns : goal.returns
+unfolding keys_of
+returns c =
+    fill_by_all (round_key (words_of_key c.args.key.now)) c.loop-i.keys 27 0 c.loop-i.invariant.0 (search rules)

@@ -1,6 +1,4 @@
-use Prim.Native.Nat.{ℕ, ◌<◌}
-use mathlib.Core.Path.{◌≡◌}
-use lib.ListN.{get_or, length}
+use Rattle.std.proofs.Common.{◌≡◌, ℕ, ◌<◌, get_or, length}
 use Rattle.half_cipher.specs.Rounds.{rounds}
 use Rattle.half_cipher.specs.Speck.{Schedule, first, next, round_key}
 use Rattle.half_cipher.specs.Words.{words_of_key}

@@ -1,17 +1,18 @@
-use mathlib.Core.Path.{refl, sym, ap₂, ◌∙◌}
+use Rattle.std.proofs.Common.{ap, ◌∙◌, rules}
+use Rattle.half_cipher.specs.Pairs.{joined}
 use Rattle.half_cipher.specs.Rounds.{rounds}
-use Rattle.half_cipher.specs.Speck.{round, round_at}
+use Rattle.half_cipher.specs.Speck.{round, round_at, round_key}
 use Rattle.half_cipher.specs.Words.{words_of_key}
-use Rattle.half_cipher.specs.Iterated.{rounds_more}
+use Rattle.half_cipher.specs.Iterated.{rounds_read}
 use Rattle.half_cipher.proofs.speck.Speck64HalfCipher.forward.Goals as goal
 
-pub loop-i-init : goal.loop-i-init
-unfolding rounds
-loop-i-init c = refl
-
-pub loop-i-preserved : goal.loop-i-preserved
-loop-i-preserved c =
-    let i = c.loop-i.i in
-    c.round-v.ensures
-    ∙ ap₂ round (c.round_keys-keys.ensures i c.loop-i-test.true) c.loop-i.invariant
-    ∙ sym (rounds_more (round_at (words_of_key c.args.key.now)) i c.split-v.result)
+pub returns : goal.returns
+returns c =
+    let ws = words_of_key c.args.key.now in
+    let run = c.fold.ensures.runs in
+    let keys = ap (λ s. s.rest.now) run.1 ∙ c.iter.ensures.rest ∙ c.round_keys-keys.ensures in
+    c.join.ensures
+    ∙ ap (joined 32)
+    (run.3 (λ v y. round y.now v) (λ v y r f' k. search rules)
+    ∙ rounds_read (round_key ws) round 27 c.split.result run.0.items ((c.iter.ensures.runs run.0 run.0.seen).4 run.2 ∙ keys)
+    ∙ ap (rounds (round_at ws) 27) c.split.ensures)
