@@ -1,6 +1,9 @@
 -- One turn of `digits_of`, and that what is written in hex is read back.
-use Rattle.std.proofs.Common.{◌≡◌, ℕ, suc, ◌+◌, ◌*◌, ◌/◌, ◌%◌, ◌<◌, false, eqb, List, [], ◌∷◌, ◌++◌, length, get_or, drop, IfOk, Some, Ok, Err, codes, Result, sym, refl, ap, ◌∙◌, append_assoc, arith, w8, Fits}
+use Rattle.std.proofs.Common.{◌≡◌, ℕ, suc, ◌+◌, ◌-◌, ◌*◌, ◌^◌, ◌/◌, ◌%◌, ◌<◌, false, eqb, List, [], ◌∷◌, ◌++◌, length, get_or, drop, IfOk, Some, Ok, Err, codes, Result, sym, refl, ap, ◌∙◌, append_assoc, arith, w8, Fits}
 use Rattle.std.specs.Str.{bytes_eq}
+use Rattle.std.specs.Fmt.{format_spec, padded_integral}
+use Rattle.std.specs.Fmt.{digits as radix_digits}
+use Rattle.std.proofs.lemmas.Fmt.{hex_byte}
 use Rattle.std.proofs.lemmas.List.{drop_more}
 use Rattle.std.proofs.lemmas.Bool.{and_right, cond-false}
 use Rattle.std.proofs.lemmas.Bool.Decides.{nat_tests}
@@ -36,23 +39,17 @@ pub made_reads_back : {S E : Type 0} (text : S → List ℕ) (r : Result S E) (b
 made_reads_back text (Ok s) bytes h e = ap decoded e ∙ reads_back bytes h
 made_reads_back text (Err x) bytes h e = tt
 
-pub encoded_none : (bs : List ℕ) → length bs ≡ 0 → encoded bs ≡ codes "."
-encoded_none [] h = refl
-encoded_none (b ∷ bs) h = absurd (omega arith)
+-- what `{:02x}` writes of a byte
+abbrev pub written : ℕ → List ℕ
+written b = padded_integral (format_spec 32 0 4 2 (2 ^ 64 - 1)) false [] (radix_digits 16 false b)
 
-pub encoded_some : (bs : List ℕ) → (length bs ≡ 0 → ⊥) → encoded bs ≡ digits bs
-encoded_some [] h = absurd (h refl)
-encoded_some (b ∷ bs) h = refl
-
--- The two digits of a byte, a and b, go from what is left to the text.
-pub digits_more : (text mid new high low all bytes : List ℕ) (i a b : ℕ) → i < length bytes →
-    mid ≡ text ++ high → high ≡ a ∷ [] → a ≡ symbol_of (get_or bytes i 0 / 16) →
-    new ≡ mid ++ low → low ≡ b ∷ [] → b ≡ symbol_of (get_or bytes i 0 % 16) →
+-- The two digits of a byte go from what is left to the text.
+pub digits_more : (text new all bytes : List ℕ) (i : ℕ) → i < length bytes → get_or bytes i 0 < 256 → new ≡ text ++ written (get_or bytes i 0) →
     text ++ digits (drop i bytes) ≡ all → new ++ digits (drop (i + 1) bytes) ≡ all
-digits_more text mid new high low all bytes i a b lt m h p n l q inv =
+digits_more text new all bytes i lt byte appends inv =
+    let b = get_or bytes i 0 in
     let left = digits (drop (i + 1) bytes) in
-    let two : high ++ (low ++ left) ≡ digits (drop i bytes) = (λ k. h k ++ (l k ++ left)) ∙ (λ k. p k ∷ q k ∷ left) ∙ sym (ap digits (drop_more bytes i 0 lt)) in
-    ap (λ t. t ++ left) (n ∙ ap (λ t. t ++ low) m)
-    ∙ append_assoc (text ++ high) low left ∙ append_assoc text high (low ++ left)
-    ∙ ap (λ t. text ++ t) two
+    ap (λ t. t ++ left) (appends ∙ ap (λ w. text ++ w) (hex_byte false b byte))
+    ∙ append_assoc text (symbol_of (b / 16) ∷ symbol_of (b % 16) ∷ []) left
+    ∙ ap (λ l. text ++ digits l) (sym (drop_more bytes i 0 lt))
     ∙ inv

@@ -19,17 +19,3 @@ prefixed c (f ∷ fs) = (c ∷ f) ∷ fs
 abbrev pub fields : List ℕ → List (List ℕ)
 fields [] = []
 fields (c ∷ cs) = cond (blank c) (fields cs) (cond (parted cs) ((c ∷ []) ∷ fields cs) (prefixed c (fields cs)))
-
--- a text from its first byte that is no blank
-abbrev pub skipped : List ℕ → List ℕ
-skipped [] = []
-skipped (c ∷ cs) = cond (blank c) (skipped cs) (c ∷ cs)
-
--- what stands before the first blank, and what is left
-abbrev pub word : List ℕ → List ℕ
-word [] = []
-word (c ∷ cs) = cond (blank c) [] (c ∷ word cs)
-
-abbrev pub after : List ℕ → List ℕ
-after [] = []
-after (c ∷ cs) = cond (blank c) (c ∷ cs) (after cs)

@@ -46,6 +46,7 @@ impl From<AllocError> for LineFault {
     }
 }
 
+// a twin of the last: std says want of memory by two types, and each `?` needs the conversion from its own
 impl<T: Drop> From<AllocFailed<T>> for LineFault {
     ghost from_gives = { λ _ r. r ≡ NoMemory };
 
@@ -58,14 +59,13 @@ impl fmt::Display for Field {
     ghost output = { λ x. Some (field_name x) };
 
     fn fmt<W: fmt::Write>(&self, f: &mut fmt::Formatter<W>) -> fmt::Result {
-        let name = match self {
+        f.write_str(match self {
             Field::Key => "key",
             Field::Header => "header",
             Field::Message => "message",
             Field::Tag => "tag",
             Field::Ciphertext => "ciphertext",
-        };
-        write!(f, "{name}")
+        })
     }
 }
 
@@ -73,11 +73,10 @@ impl fmt::Display for Form {
     ghost output = { λ x. Some (form_fields x) };
 
     fn fmt<W: fmt::Write>(&self, f: &mut fmt::Formatter<W>) -> fmt::Result {
-        let fields = match self {
+        f.write_str(match self {
             Form::Wrap => "3 wanted: KEY HEADER MESSAGE",
             Form::Unwrap => "4 wanted: KEY HEADER TAG CIPHERTEXT",
-        };
-        write!(f, "{fields}")
+        })
     }
 }
 

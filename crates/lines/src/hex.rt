@@ -2,67 +2,44 @@
 
 ghost use Rattle.std.specs.Prelude.{◌≡◌, ◌<◌, IfSome, IfOk, Some, vec_items, string_bytes};
 ghost use Rattle.lines.specs.Answers.{Answers};
-ghost use Rattle.lines.specs.Hex.{digit_of, byte_of, symbol_of, decoded, reading, digits, encoded, ReadsBack};
+ghost use Rattle.lines.specs.Hex.{digit_of, byte_of, decoded, reading, digits, encoded, ReadsBack};
 ghost use Rattle.lines.specs.Laws.{WrapsReadBack, UnwrapsReadBack};
 
 use crate::fault::{Field, LineFault};
 use std::alloc::{AllocError, Global};
+use std::fmt::Write;
 
 /// The value of a hex digit, of either case.
-fn digit(c: u8) -> Option<u8>
+fn digit(c: u8) -> Option<u32>
     ensures value { result ≡ digit_of c }
     ensures bound { IfSome result (λ d. d < 16) }
 {
-    match c {
-        b'0'..=b'9' => Some(c - b'0'),
-        b'a'..=b'f' => Some(c - b'a' + 10),
-        b'A'..=b'F' => Some(c - b'A' + 10),
-        _ => None,
-    }
+    char::from(c).to_digit(16)
 }
 
 /// The byte that two digits write.
 fn byte(high: u8, low: u8) -> Option<u8>
     ensures { result ≡ byte_of high low }
 {
-    let h = digit(high)?;
-    let l = digit(low)?;
-    Some(16 * h + l)
+    Some((16 * digit(high)? + digit(low)?) as u8)
 }
 
 /// The bytes that the text of a field writes in hex. A fault names the field.
+#[tactic(auto, using(crate::proofs::Decoding::reading_odd, crate::proofs::Decoding::paired_chunks))]
 pub fn decode(heap: Global, field: Field, text: &[u8]) -> Result<Vec<u8>, LineFault>
     ensures { Answers vec_items result (reading field text.now) }
 {
     if text == b".".as_slice() {
         return Ok(Vec::new(heap));
     }
-    if text.len() % 2 != 0 {
+    let (pairs, []) = text.as_chunks::<2>() else {
         return Err(LineFault::OddDigits(field));
-    }
-    let mut bytes = Vec::with_capacity(heap, text.len() / 2)?;
-    let mut rest = text;
-    while let [high, low, tail @ ..] = rest {
-        let Some(b) = byte(*high, *low) else {
-            return Err(LineFault::NotHex(field));
-        };
-        bytes.push(b)?;
-        rest = tail;
+    };
+    let mut bytes = Vec::with_capacity(heap, pairs.len())?;
+    for [high, low] in pairs {
+        bytes.push(byte(*high, *low).ok_or(LineFault::NotHex(field))?)?;
     }
     Ok(bytes)
-}
-
-/// The digit of a value below 16, in lower case.
-fn symbol(d: u8) -> char
-    requires { d < 16 }
-    ensures value { result ≡ symbol_of d }
-    ensures bound { result < 128 }
-{
-    if d < 10 {
-        char::from(b'0' + d)
-    } else {
-        char::from(b'a' + (d - 10))
-    }
 }
 
 /// The digits of bytes.
@@ -71,13 +48,13 @@ fn digits_of(heap: Global, bytes: &[u8]) -> Result<String, AllocError>
 {
     let mut text = String::new(heap);
     for b in bytes {
-        text.push(symbol(*b / 16))?;
-        text.push(symbol(*b % 16))?;
+        write!(text, "{b:02x}")?;
     }
     Ok(text)
 }
 
 /// Bytes as text in hex, in lower case.
+#[tactic(auto, using(crate::proofs::Encoding::reads_back, crate::proofs::ReadBack::wraps_read_back, crate::proofs::ReadBack::unwraps_read_back))]
 pub fn encode(heap: Global, bytes: &[u8]) -> Result<String, AllocError>
     ensures text { IfOk result (λ s. string_bytes s ≡ encoded bytes.now) }
     ensures undone { IfOk result (λ s. decoded (string_bytes s) ≡ Some bytes.now) }

@@ -10,7 +10,7 @@ mod split;
 mod tests {
     use crate::fault::Field;
     use crate::hex;
-    use crate::request::{UnwrapRequest, WrapRequest};
+    use crate::request::{Request, UnwrapRequest, WrapRequest};
     use std::test::Fail;
 
     #[test]

@@ -1,14 +1,30 @@
 //! What a line asks for.
 
-ghost use Rattle.std.specs.Prelude.{vec_items};
+ghost use Rattle.std.specs.Prelude.{List, ℕ, Result, vec_items};
 ghost use Rattle.std.specs.Option.{option_map};
+ghost use Rattle.lines.specs.declared.fault.LineFault.{LineFault};
 ghost use Rattle.lines.specs.Answers.{Answers};
-ghost use Rattle.lines.specs.Lines.{to_wrap, to_unwrap, header_reading, wrap_line, unwrap_line};
+ghost use Rattle.lines.specs.Lines.{ToWrap, ToUnwrap, to_wrap, to_unwrap, header_reading, wrap_line, unwrap_line};
 
 use crate::fault::{Field, Form, LineFault};
 use crate::hex;
-use crate::split::{next_field, no_field};
+use crate::split::fields;
 use std::alloc::Global;
+
+/// What a line can ask for.
+pub trait Request: Sized {
+    /// What is asked, as plain bytes.
+    ghost Asked: { Type 0 };
+
+    ghost asked: { Self → Asked };
+
+    /// What a line of this form asks for, or what is wrong with it.
+    ghost reading: { List ℕ → Result Asked LineFault };
+
+    /// Reads a line. The number of fields comes first, then the fields in their order.
+    fn parse(heap: Global, line: &[u8]) -> Result<Self, LineFault>
+        ensures { Answers asked result (reading line.now) };
+}
 
 /// A message to wrap, with its key and its header, which may be absent.
 #[derive(Drop)]
@@ -27,46 +43,52 @@ pub struct UnwrapRequest {
     pub ciphertext: Vec<u8>,
 }
 
-impl WrapRequest {
-    /// Reads the line `KEY HEADER MESSAGE`. The number of fields comes first, then the fields in their order.
-    pub fn parse(heap: Global, line: &[u8]) -> Result<WrapRequest, LineFault>
+/// The line `KEY HEADER MESSAGE`.
+#[tactic(auto, using(crate::proofs::Answering::wrap_read, crate::proofs::Answering::wrap_few, crate::proofs::Answering::wrap_many))]
+impl Request for WrapRequest {
+    ghost Asked = { ToWrap };
+
+    ghost asked = { to_wrap };
+
+    ghost reading = { wrap_line };
+
+    fn parse(heap: Global, line: &[u8]) -> Result<WrapRequest, LineFault>
         ensures { Answers to_wrap result (wrap_line line.now) }
     {
-        let (key, rest) = next_field(Form::Wrap, line)?;
-        let (header, rest) = next_field(Form::Wrap, rest)?;
-        let (message, rest) = next_field(Form::Wrap, rest)?;
-        no_field(Form::Wrap, rest)?;
-        let key = hex::decode(heap, Field::Key, key)?;
-        let header = decode_header(heap, header)?;
-        let message = hex::decode(heap, Field::Message, message)?;
-        Ok(WrapRequest {
-            key,
-            header,
-            message,
-        })
+        match fields(heap, line)?.as_slice() {
+            [key, header, message] => Ok(WrapRequest {
+                key: hex::decode(heap, Field::Key, key)?,
+                header: decode_header(heap, header)?,
+                message: hex::decode(heap, Field::Message, message)?,
+            }),
+            [_, _, _, _, ..] => Err(LineFault::TooManyFields(Form::Wrap)),
+            _ => Err(LineFault::TooFewFields(Form::Wrap)),
+        }
     }
 }
 
-impl UnwrapRequest {
-    /// Reads the line `KEY HEADER TAG CIPHERTEXT`. The number of fields comes first, then the fields in their order.
-    pub fn parse(heap: Global, line: &[u8]) -> Result<UnwrapRequest, LineFault>
+/// The line `KEY HEADER TAG CIPHERTEXT`.
+#[tactic(auto, using(crate::proofs::Answering::unwrap_read, crate::proofs::Answering::unwrap_few, crate::proofs::Answering::unwrap_many))]
+impl Request for UnwrapRequest {
+    ghost Asked = { ToUnwrap };
+
+    ghost asked = { to_unwrap };
+
+    ghost reading = { unwrap_line };
+
+    fn parse(heap: Global, line: &[u8]) -> Result<UnwrapRequest, LineFault>
         ensures { Answers to_unwrap result (unwrap_line line.now) }
     {
-        let (key, rest) = next_field(Form::Unwrap, line)?;
-        let (header, rest) = next_field(Form::Unwrap, rest)?;
-        let (tag, rest) = next_field(Form::Unwrap, rest)?;
-        let (ciphertext, rest) = next_field(Form::Unwrap, rest)?;
-        no_field(Form::Unwrap, rest)?;
-        let key = hex::decode(heap, Field::Key, key)?;
-        let header = decode_header(heap, header)?;
-        let tag = hex::decode(heap, Field::Tag, tag)?;
-        let ciphertext = hex::decode(heap, Field::Ciphertext, ciphertext)?;
-        Ok(UnwrapRequest {
-            key,
-            header,
-            tag,
-            ciphertext,
-        })
+        match fields(heap, line)?.as_slice() {
+            [key, header, tag, ciphertext] => Ok(UnwrapRequest {
+                key: hex::decode(heap, Field::Key, key)?,
+                header: decode_header(heap, header)?,
+                tag: hex::decode(heap, Field::Tag, tag)?,
+                ciphertext: hex::decode(heap, Field::Ciphertext, ciphertext)?,
+            }),
+            [_, _, _, _, _, ..] => Err(LineFault::TooManyFields(Form::Unwrap)),
+            _ => Err(LineFault::TooFewFields(Form::Unwrap)),
+        }
     }
 }
 

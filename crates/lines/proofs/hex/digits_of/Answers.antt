@@ -1,23 +1,11 @@
-use Rattle.std.proofs.Common.{string_bytes, arith, rules}
-use lib.Utf8.{encode}
-use Rattle.std.proofs.lemmas.List.{drop_all}
+use Rattle.std.proofs.Common.{◌≡◌, ◌++◌, get_or, string_bytes, arith, rules}
+use Rattle.lines.proofs.Encoding.{written, digits_more}
 use Rattle.lines.specs.Hex.{digits}
-use Rattle.lines.proofs.Encoding.{digits_more}
 use Rattle.lines.proofs.hex.digits_of.Goals as goal
 
 pub loop-b-preserved : goal.loop-b-preserved
 loop-b-preserved c =
-    let i = c.loop-b.b-index in
     let bytes = c.args.bytes.now in
-    let high = c.in_ok-push.ensures in
-    let low = c.in_ok-push-2.ensures in
-    let a = c.symbol in
-    let b = c.symbol-in-loop-b in
-    digits_more (string_bytes c.loop-b.text) (string_bytes c.push.new.self) (string_bytes c.push-in-loop-b.new.self)
-    (encode a.result) (encode b.result) (digits bytes) bytes i a.result b.result (omega arith)
-    high.bytes (high.ascii a.ensures.bound) a.ensures.value
-    low.bytes (low.ascii b.ensures.bound) b.ensures.value
-    c.loop-b.invariant
-
-pub returns : goal.returns
-returns c = search (rules, drop_all)
+    let i = c.loop-b.b-index in
+    let appends : string_bytes c.write.new.self ≡ string_bytes c.loop-b.text ++ written (get_or bytes i 0) = search (rules, c.in_radix.ensures, c.laid_out.ensures, c.in_ok-write.ensures.bytes) in
+    digits_more (string_bytes c.loop-b.text) (string_bytes c.write.new.self) (digits bytes) bytes i (omega arith) (c.type_inv.bytes i).fits appends c.loop-b.invariant
