@@ -1,6 +1,9 @@
 // The names of the ciphers that stand on their own.
 ghost use Rattle.named.specs.Names.{Named, cipher_text};
-ghost use Rattle.std.specs.Prelude.{◌≡◌};
+ghost use Rattle.std.specs.Result.{result_ok};
+
+use crate::unknown_name::UnknownName;
+use std::str::FromStr;
 
 #[derive(Clone, Copy, PartialEq, Eq, Debug)]
 pub enum CipherName {
@@ -10,17 +13,18 @@ pub enum CipherName {
     WideSpeck64128,
 }
 
-impl CipherName {
-    /// The cipher of that name, if there is one.
-    pub fn named(name: &str) -> Option<CipherName>
-        ensures { Named cipher_text name.now result }
-    {
-        match name {
-            "aes128" => Some(CipherName::Aes128),
-            "bench" => Some(CipherName::Bench),
-            "wide-xtea" => Some(CipherName::WideXtea),
-            "wide-speck64128" => Some(CipherName::WideSpeck64128),
-            _ => None,
+impl FromStr for CipherName {
+    type Err = UnknownName;
+
+    ghost from_str_gives = { λ text r. Named cipher_text text (result_ok r) };
+
+    fn from_str(text: &str) -> Result<CipherName, UnknownName> {
+        match text {
+            "aes128" => Ok(CipherName::Aes128),
+            "bench" => Ok(CipherName::Bench),
+            "wide-xtea" => Ok(CipherName::WideXtea),
+            "wide-speck64128" => Ok(CipherName::WideSpeck64128),
+            _ => Err(UnknownName),
         }
     }
 }

@@ -4,3 +4,4 @@
 pub mod cipher_name;
 pub mod multiplier_name;
 pub mod task;
+pub mod unknown_name;

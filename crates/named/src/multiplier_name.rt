@@ -1,6 +1,9 @@
 // The names of the multipliers.
 ghost use Rattle.named.specs.Names.{Named, multiplier_text};
-ghost use Rattle.std.specs.Prelude.{◌≡◌};
+ghost use Rattle.std.specs.Result.{result_ok};
+
+use crate::unknown_name::UnknownName;
+use std::str::FromStr;
 
 #[derive(Clone, Copy, PartialEq, Eq, Debug)]
 pub enum MultiplierName {
@@ -8,15 +11,16 @@ pub enum MultiplierName {
     Table,
 }
 
-impl MultiplierName {
-    /// The multiplier of that name, if there is one.
-    pub fn named(name: &str) -> Option<MultiplierName>
-        ensures { Named multiplier_text name.now result }
-    {
-        match name {
-            "doubling" => Some(MultiplierName::Doubling),
-            "table" => Some(MultiplierName::Table),
-            _ => None,
+impl FromStr for MultiplierName {
+    type Err = UnknownName;
+
+    ghost from_str_gives = { λ text r. Named multiplier_text text (result_ok r) };
+
+    fn from_str(text: &str) -> Result<MultiplierName, UnknownName> {
+        match text {
+            "doubling" => Ok(MultiplierName::Doubling),
+            "table" => Ok(MultiplierName::Table),
+            _ => Err(UnknownName),
         }
     }
 }

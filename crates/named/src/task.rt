@@ -15,6 +15,7 @@ use half_cipher::speck::Speck64;
 use half_cipher::xtea::Xtea;
 use wide::Wide;
 
+// a trait and no closure: a closure would take the ciphers of one type alone
 /// Something to be done with a cipher, whichever it is.
 pub trait Task: Sized {
     type Outcome;
