@@ -1,27 +1,15 @@
 -- What is written, from the pieces that the code puts into the buffer.
-use Rattle.std.proofs.Common.{◌≡◌, ℕ, ◌+◌, ◌-◌, ◌^◌, ◌<◌, ◌≤◌, List, [], ◌∷◌, ◌++◌, length, take, drop, Ok, sym, ap, ◌∙◌, ap₂, arith}
+use Rattle.std.proofs.Common.{◌≡◌, ℕ, ◌+◌, ◌-◌, ◌^◌, ◌<◌, ◌≤◌, List, ◌∷◌, ◌++◌, length, take, drop, Ok, sym, ap, ◌∙◌, ap₂, arith}
 use borrow.Rule.Slice.PartMut.{put_mid, post_of}
-use Rattle.std.proofs.lemmas.List.{append-nil, drop_all, drop_at, drop-drop, take_at}
+use Rattle.std.proofs.lemmas.List.{drop_at, drop-drop, take_at}
 use Rattle.std.proofs.lemmas.Bool.Decides.{nat_tests}
 use Rattle.telegram.specs.declared.parts.Places.{Places}
 use Rattle.telegram.specs.Calls.{around, framing, Framed}
 use Rattle.telegram.specs.Format.{Sized, two, written, reading}
-use Rattle.telegram.specs.Header.{Heading, four, header_bytes}
+use Rattle.telegram.specs.Header.{Heading, header_bytes}
 use Rattle.telegram.specs.Places.{layout}
 use Rattle.telegram.proofs.Accepts.{lies_there}
-use Rattle.telegram.proofs.Laws.{tag_long, ciphertext_long, tag_ciphertext, reads_back, header_reads_back}
-
--- ---- a header
-
--- the bytes before the note, and then the note over all that is left
-pub header_put : (out : List ℕ) (g s k : ℕ) (note six rest : List ℕ) → six ≡ g ∷ (four s ++ (k ∷ [])) → rest ≡ note
-    → put_mid 6 (length (six ++ post_of 0 6 out) - 6) (six ++ post_of 0 6 out) rest ≡ header_bytes (record { gauge = g; serial = s; kind = k; note = note })
-header_put out g s k note six rest es er =
-    let front = g ∷ (four s ++ (k ∷ [])) in
-    let left = drop 6 out in
-    ap₂ (λ a r. put_mid 6 (length (a ++ left) - 6) (a ++ left) r) es er
-    ∙ ap (λ r. front ++ (note ++ r)) (drop_all (length (front ++ left) - 6) left (omega arith))
-    ∙ ap (λ r. front ++ r) (append-nil note)
+use Rattle.telegram.proofs.Laws.{tag_long, ciphertext_long, apart, reads_back, header_reads_back}
 
 -- ---- a frame
 
@@ -31,25 +19,24 @@ put_frame out at front middle pair =
     put_mid at.header.end (at.tag.start - at.header.end) (put_mid 3 (at.header.end - 3) (front ++ post_of 0 3 out) middle) pair
 
 frame_put : (out header : List ℕ) (n m : ℕ) → length header ≡ n
-    → put_frame out (layout n m) (1 ∷ two n) header (two m) ≡ 1 ∷ (two n ++ (header ++ (two m ++ (take 16 (drop (5 + n) out) ++ drop (21 + n) out))))
+    → put_frame out (layout n m) (1 ∷ two n) header (two m) ≡ 1 ∷ (two n ++ (header ++ (two m ++ drop (5 + n) out)))
 frame_put out header n m long =
     let header-size : 3 + n - 3 ≡ n = omega arith in
     let pair_size : 5 + n - (3 + n) ≡ 2 = omega arith in
-    let place : 3 + n + 2 ≡ 5 + n = omega arith in
     let start = 1 ∷ (two n ++ header) in
     let left = drop n (drop 3 out) in
-    let sealed : drop 2 left ≡ take 16 (drop (5 + n) out) ++ drop (21 + n) out =
-    ap (drop 2) (drop-drop n 3 out) ∙ drop-drop 2 (3 + n) out ∙ ap (λ (k : ℕ). drop k out) place ∙ sym (tag_ciphertext out n) in
+    let sealed : drop 2 left ≡ drop (5 + n) out = ap (drop 2) (drop-drop n 3 out) ∙ drop-drop 2 (3 + n) out ∙ ap (λ (k : ℕ). drop k out) (omega arith) in
     ap₂ (λ (j k : ℕ). put_mid (3 + n) k (put_mid 3 j ((1 ∷ two n) ++ drop 3 out) header) (two m)) header-size pair_size
     ∙ ap₂ (λ a b. a ++ (two m ++ drop 2 b)) (take_at start left (3 + n) (omega arith)) (drop_at start left (3 + n) (omega arith))
     ∙ ap (λ b. 1 ∷ (two n ++ (header ++ (two m ++ b)))) sealed
 
 module _ (h : Heading) (out : List ℕ) (n m : ℕ) (size : length (header_bytes h) ≡ n) (sum : length out ≡ 21 + n + m)
     (short : length h.note ≤ 1018) (message : m ≤ 4096) (serial : h.serial < 2 ^ 32) where
-  around-written : written (around h out) ≡ 1 ∷ (two n ++ (header_bytes h ++ (two m ++ (take 16 (drop (5 + n) out) ++ drop (21 + n) out))))
+  around-written : written (around h out) ≡ 1 ∷ (two n ++ (header_bytes h ++ (two m ++ drop (5 + n) out)))
   around-written =
-      ap (λ (k : ℕ). 1 ∷ (two k ++ (header_bytes h ++ (two (length (drop (21 + k) out)) ++ (take 16 (drop (5 + k) out) ++ drop (21 + k) out))))) size
-      ∙ ap (λ (k : ℕ). 1 ∷ (two n ++ (header_bytes h ++ (two k ++ (take 16 (drop (5 + n) out) ++ drop (21 + n) out))))) (ciphertext_long out n m sum)
+      let message-size : length (drop (21 + n) out) ≡ m = ciphertext_long out n m sum in
+      let sealed : take 16 (drop (5 + n) out) ++ drop (21 + n) out ≡ drop (5 + n) out = apart out (5 + n) 16 (21 + n) (omega arith) in
+      cc
 
   sum-around : length out ≡ 21 + length (header_bytes h) + m
   sum-around = omega arith

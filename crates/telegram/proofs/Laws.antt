@@ -1,11 +1,12 @@
 -- Reading and writing undo each other.
-use Rattle.std.proofs.Common.{◌≡◌, ℕ, ◌+◌, ◌*◌, ◌/◌, ◌%◌, ◌^◌, ◌<◌, ◌≤◌, Bool, true, false, cond, List, [], ◌∷◌, ◌++◌, length, get_or, take, drop, Ok, Err, sym, refl, ap, ◌∙◌, subst, ap₂, arith, lit<, length-append, length-drop}
-use Rattle.std.proofs.lemmas.List.{append_assoc, drop_more, drop-drop, drop_at, take_at, get_or_at, length-take-le, take-append-drop}
+use Rattle.std.proofs.Common.{◌≡◌, ℕ, ◌+◌, ◌/◌, ◌%◌, ◌≤◌, Bool, true, false, cond, List, [], ◌∷◌, ◌++◌, length, get_or, take, drop, Ok, Err, refl, ap, ◌∙◌, sym, subst, ap₂, add-zero, arith, length-append, length-drop}
+use Rattle.std.proofs.lemmas.List.{drop_more, drop-drop, drop_at, take_at, get_or-drop, length-take-le, take-append-drop}
+use Rattle.std.proofs.lemmas.Nat.{from_be_bytes-to_be_bytes_4}
 use Rattle.std.proofs.lemmas.Bool.{cond-true}
 use Rattle.std.proofs.lemmas.Bool.Decides.{nat_tests}
 use Rattle.telegram.specs.declared.fault.TelegramFault.TheVariants.{Version, Lengths}
 use Rattle.telegram.specs.Format.{Parts, Sized, two, written, word, header_length, message_length, other_version, header_sized, lengths_fit, parts, reading}
-use Rattle.telegram.specs.Header.{Heading, Fits, four, header_bytes, headed, header_reading}
+use Rattle.telegram.specs.Header.{Heading, Fits, four, number, header_bytes, headed, header_reading}
 use Rattle.block.specs.Bytes.{AllBytes}
 
 -- ---- what is accepted
@@ -24,9 +25,9 @@ pub accepted : (b : List ℕ) (h m : ℕ) → Passes b h m → reading b ≡ Ok 
 accepted b h m p = grind (arith, nat_tests)
 
 both_passed : {X E : Type 0} (v f : Bool) (e e' : E) (x y : X) → cond v (Err e) (cond f (Ok x) (Err e')) ≡ Ok y → (v ≡ false) × (f ≡ true) × (x ≡ y)
-both_passed true f e e' x y is = let z : ◌≡◌ {A = ℕ} 0 1 = cc in absurd (omega arith)
+both_passed true f e e' x y is = cc
 both_passed false true e e' x y is = (refl, refl, cc)
-both_passed false false e e' x y is = let z : ◌≡◌ {A = ℕ} 0 1 = cc in absurd (omega arith)
+both_passed false false e e' x y is = cc
 
 pub passed : (b : List ℕ) (p : Parts) → reading b ≡ Ok p → Passes b (header_length b) (message_length b) × (parts b ≡ p)
 passed b p is =
@@ -82,33 +83,30 @@ reads_back p s = accepted b h m passes ∙ ap Ok (same_parts (parts b) p header_
     m : ℕ
     m = length p.ciphertext
 
-    -- b, taken apart before the lower byte of the message's length, the tag and the ciphertext
-    low_apart : b ≡ (1 ∷ (two h ++ (p.header ++ (m / 256 % 256 ∷ [])))) ++ (m % 256 ∷ (p.tag ++ p.ciphertext))
-    low_apart = simp append_assoc
-
-    tag_apart : b ≡ (1 ∷ (two h ++ (p.header ++ two m))) ++ (p.tag ++ p.ciphertext)
-    tag_apart = simp append_assoc
-
-    ciphertext_apart : b ≡ (1 ∷ (two h ++ (p.header ++ (two m ++ p.tag)))) ++ p.ciphertext
-    ciphertext_apart = simp append_assoc
-
     header_is : header_length b ≡ h
     header_is = omega (arith, s.header.1)
 
-    message_high : get_or b (3 + h) 0 ≡ m / 256 % 256
-    message_high = get_or_at (1 ∷ (two h ++ p.header)) (m / 256 % 256) (m % 256 ∷ (p.tag ++ p.ciphertext)) 0 (3 + h) (omega arith)
+    -- what stands behind the header, and behind the message's length
+    behind : drop (3 + h) b ≡ two m ++ (p.tag ++ p.ciphertext)
+    behind = drop_at (1 ∷ (two h ++ p.header)) (two m ++ (p.tag ++ p.ciphertext)) (3 + h) (omega arith)
 
-    message_low : get_or b (3 + h + 1) 0 ≡ m % 256
-    message_low =
-        ap (λ x. get_or x (3 + h + 1) 0) low_apart
-        ∙ get_or_at (1 ∷ (two h ++ (p.header ++ (m / 256 % 256 ∷ [])))) (m % 256) (p.tag ++ p.ciphertext) 0 (3 + h + 1) (simp length-append (omega arith))
+    sealed : drop (5 + h) b ≡ p.tag ++ p.ciphertext
+    sealed = ap (λ (n : ℕ). drop n b) (omega arith) ∙ sym (drop-drop 2 (3 + h) b) ∙ ap (drop 2) behind
+
+    message_is : word b (3 + h) ≡ m
+    message_is =
+        let pair : (i : ℕ) → get_or b (3 + h + i) 0 ≡ get_or (two m ++ (p.tag ++ p.ciphertext)) i 0 =
+        λ i. sym (get_or-drop (3 + h) b i 0) ∙ ap (λ x. get_or x i 0) behind in
+        let hi : get_or b (3 + h) 0 ≡ m / 256 % 256 = simp add-zero at (pair 0) in
+        let lo : get_or b (3 + h + 1) 0 ≡ m % 256 = pair 1 in
+        omega (arith, s.ciphertext)
 
     passes : Passes b h m
     passes =
         record {
           version = refl;
           header = header_is;
-          message = omega (arith, message_high, message_low, s.ciphertext);
+          message = message_is;
           low = s.header.0;
           high = s.header.1;
           short = s.ciphertext;
@@ -116,119 +114,75 @@ reads_back p s = accepted b h m passes ∙ ap Ok (same_parts (parts b) p header_
         }
 
     header_back : take (header_length b) (drop 3 b) ≡ p.header
-    header_back = ap (λ n. take n (drop 3 b)) header_is ∙ take_at p.header (two m ++ (p.tag ++ p.ciphertext)) h refl
+    header_back = rw header_is (take_at p.header (two m ++ (p.tag ++ p.ciphertext)) h refl)
 
     tag_back : take 16 (drop (5 + header_length b) b) ≡ p.tag
-    tag_back =
-        ap₂ (λ n x. take 16 (drop (5 + n) x)) header_is tag_apart
-        ∙ ap (take 16) (drop_at (1 ∷ (two h ++ (p.header ++ two m))) (p.tag ++ p.ciphertext) (5 + h) (simp length-append (omega arith)))
-        ∙ take_at p.tag p.ciphertext 16 s.tag
+    tag_back = rw (header_is, sealed) (take_at p.tag p.ciphertext 16 s.tag)
 
     ciphertext_back : drop (21 + header_length b) b ≡ p.ciphertext
-    ciphertext_back =
-        ap₂ (λ n x. drop (21 + n) x) header_is ciphertext_apart
-        ∙ drop_at (1 ∷ (two h ++ (p.header ++ (two m ++ p.tag)))) p.ciphertext (21 + h) (simp length-append (omega (arith, s.tag)))
+    ciphertext_back = rw header_is (ap (λ (n : ℕ). drop n b) (omega arith) ∙ sym (drop-drop 16 (5 + h) b) ∙ ap (drop 16) sealed ∙ drop_at p.tag p.ciphertext 16 s.tag)
 
 -- ---- what is read is written back
 
--- the tag and the ciphertext stand together
-pub tag_ciphertext : (b : List ℕ) (h : ℕ) → take 16 (drop (5 + h) b) ++ drop (21 + h) b ≡ drop (5 + h) b
-tag_ciphertext b h =
-    let place : 5 + h + 16 ≡ 21 + h = omega arith in
-    ap (λ x. take 16 (drop (5 + h) b) ++ x) (sym (drop-drop 16 (5 + h) b ∙ ap (λ (n : ℕ). drop n b) place)) ∙ take-append-drop 16 (drop (5 + h) b)
+-- n bytes from i on stand before the rest
+pub apart : (b : List ℕ) (i n j : ℕ) → i + n ≡ j → take n (drop i b) ++ drop j b ≡ drop i b
+apart b i n j e = ap (λ x. take n (drop i b) ++ x) (sym (drop-drop n i b ∙ ap (λ (k : ℕ). drop k b) e)) ∙ take-append-drop n (drop i b)
 
-two_word : (x y : ℕ) → x < 256 → y < 256 → two (256 * x + y) ≡ x ∷ y ∷ []
-two_word x y hx hy = ap₂ (λ a b. a ∷ b ∷ []) (omega arith) (omega arith)
+-- the two bytes from i on spell a number, which is written as they stand
+two_there : (b : List ℕ) (i j : ℕ) → AllBytes b → i + 2 ≡ j → j ≤ length b → two (word b i) ++ drop j b ≡ drop i b
+two_there b i j all e long =
+    let hi = all i (omega arith) in
+    let lo = all (i + 1) (omega arith) in
+    let next : i + 1 + 1 ≡ j = omega arith in
+    let spells : two (word b i) ≡ get_or b i 0 ∷ get_or b (i + 1) 0 ∷ [] = ap₂ (λ x y. x ∷ y ∷ []) (omega arith) (omega arith) in
+    let first : drop i b ≡ get_or b i 0 ∷ drop (i + 1) b = drop_more b i 0 (omega arith) in
+    let second : drop (i + 1) b ≡ get_or b (i + 1) 0 ∷ drop j b = drop_more b (i + 1) 0 (omega arith) ∙ ap (λ (k : ℕ). get_or b (i + 1) 0 ∷ drop k b) next in
+    ap (λ x. x ++ drop j b) spells ∙ cc
 
 pub writes_back : (b : List ℕ) (p : Parts) → AllBytes b → reading b ≡ Ok p → written p ≡ b
 writes_back b p all is =
-    sym (ap written (passed b p is).1)
-    ∙ ap₂ (λ x y. 1 ∷ (two x ++ (header ++ (two y ++ (tag ++ ciphertext))))) (header_long b h m ps.sum) (ciphertext_long b h m ps.sum)
-    ∙ ap₂ (λ x y. 1 ∷ (x ++ (header ++ (y ++ (tag ++ ciphertext))))) header_bytes_lem message_bytes
-    ∙ ap (λ x. 1 ∷ get_or b 1 0 ∷ get_or b 2 0 ∷ (header ++ (get_or b (3 + h) 0 ∷ get_or b (3 + h + 1) 0 ∷ x))) sealed
-    ∙ ap (λ x. 1 ∷ get_or b 1 0 ∷ get_or b 2 0 ∷ (header ++ x)) (sym behind_header)
-    ∙ ap₂ (λ v x. v ∷ get_or b 1 0 ∷ get_or b 2 0 ∷ x) (sym ps.version) (sym behind_length)
-    ∙ sym first_three
-  where
-    h : ℕ
-    h = header_length b
-
-    m : ℕ
-    m = message_length b
-
-    ps : Passes b h m
-    ps = (passed b p is).0
-
-    header : List ℕ
-    header = take h (drop 3 b)
-
-    tag : List ℕ
-    tag = take 16 (drop (5 + h) b)
-
-    ciphertext : List ℕ
-    ciphertext = drop (21 + h) b
-
-    header_bytes_lem : two h ≡ get_or b 1 0 ∷ get_or b 2 0 ∷ []
-    header_bytes_lem = two_word (get_or b 1 0) (get_or b 2 0) (all 1 (omega (arith, ps.sum))) (all 2 (omega (arith, ps.sum)))
-
-    message_bytes : two m ≡ get_or b (3 + h) 0 ∷ get_or b (3 + h + 1) 0 ∷ []
-    message_bytes = two_word (get_or b (3 + h) 0) (get_or b (3 + h + 1) 0) (all (3 + h) (omega (arith, ps.sum))) (all (3 + h + 1) (omega (arith, ps.sum)))
-
-    sealed : tag ++ ciphertext ≡ drop (3 + h + 1 + 1) b
-    sealed = tag_ciphertext b h ∙ ap (λ (n : ℕ). drop n b) (omega arith)
-
-    behind_header : drop (3 + h) b ≡ get_or b (3 + h) 0 ∷ get_or b (3 + h + 1) 0 ∷ drop (3 + h + 1 + 1) b
-    behind_header = drop_more b (3 + h) 0 (omega (arith, ps.sum)) ∙ ap (λ x. get_or b (3 + h) 0 ∷ x) (drop_more b (3 + h + 1) 0 (omega (arith, ps.sum)))
-
-    behind_length : drop 3 b ≡ header ++ drop (3 + h) b
-    behind_length = sym (ap (λ x. take h (drop 3 b) ++ x) (sym (drop-drop h 3 b)) ∙ take-append-drop h (drop 3 b))
-
-    first_three : b ≡ get_or b 0 0 ∷ get_or b 1 0 ∷ get_or b 2 0 ∷ drop 3 b
-    first_three =
-        drop_more b 0 0 (omega (arith, ps.sum))
-        ∙ ap (λ x. get_or b 0 0 ∷ x) (drop_more b 1 0 (omega (arith, ps.sum)) ∙ ap (λ x. get_or b 1 0 ∷ x) (drop_more b 2 0 (omega (arith, ps.sum))))
+    let h = header_length b in
+    let m = message_length b in
+    let ps = (passed b p is).0 in
+    let first : b ≡ get_or b 0 0 ∷ drop 1 b = drop_more b 0 0 (omega (arith, ps.sum)) in
+    let header_len : length (take h (drop 3 b)) ≡ h = header_long b h m ps.sum in
+    let message_len : length (drop (21 + h) b) ≡ m = ciphertext_long b h m ps.sum in
+    let header_pair : two h ++ drop 3 b ≡ drop 1 b = two_there b 1 3 all refl (omega (arith, ps.sum)) in
+    let header : take h (drop 3 b) ++ drop (3 + h) b ≡ drop 3 b = apart b 3 h (3 + h) refl in
+    let message_pair : two m ++ drop (5 + h) b ≡ drop (3 + h) b = two_there b (3 + h) (5 + h) all (omega arith) (omega (arith, ps.sum)) in
+    let sealed : take 16 (drop (5 + h) b) ++ drop (21 + h) b ≡ drop (5 + h) b = apart b (5 + h) 16 (21 + h) (omega arith) in
+    sym (ap written (passed b p is).1) ∙ cc ps.version
 
 -- ---- headers
-
--- digits to the base 256, from the lowest up
-digits : (n q r s w x y z : ℕ) → n ≡ 256 * q + z → q ≡ 256 * r + y → r ≡ 256 * s + x → s ≡ w → 2 ^ 24 * w + 2 ^ 16 * x + 2 ^ 8 * y + z ≡ n
-digits n q r s w x y z e f g i = omega arith
-
-number-four : (n : ℕ) → n < 2 ^ 32 → 2 ^ 24 * (n / 2 ^ 24 % 256) + 2 ^ 16 * (n / 2 ^ 16 % 256) + 2 ^ 8 * (n / 2 ^ 8 % 256) + n % 256 ≡ n
-number-four n l = digits n (n / 2 ^ 8) (n / 2 ^ 16) (n / 2 ^ 24) _ _ _ _ (omega arith) (omega arith) (omega arith) (omega arith)
 
 pub header_reads_back : (h : Heading) → Fits h → header_reading (header_bytes h) ≡ Ok h
 header_reads_back h f =
     let short = f.note in
     let fits : header_sized (length (header_bytes h)) ≡ true = grind (arith, nat_tests) in
-    cond-true _ _ _ fits
-    ∙ ap (λ s. Ok (record { gauge = h.gauge; serial = s; kind = h.kind; note = h.note })) (number-four h.serial f.serial)
+    let serial : number (header_bytes h) 1 ≡ h.serial = omega (arith, from_be_bytes-to_be_bytes_4 h.serial f.serial) in
+    cond-true _ _ _ fits ∙ ap (λ n. Ok (record { gauge = h.gauge; serial = n; kind = h.kind; note = h.note })) serial
 
-four-number : (w x y z : ℕ) → w < 256 → x < 256 → y < 256 → z < 256 → four (2 ^ 24 * w + 2 ^ 16 * x + 2 ^ 8 * y + z) ≡ w ∷ x ∷ y ∷ z ∷ []
-four-number w x y z hw hx hy hz =
-    ap₂ ◌∷◌ (omega arith) (ap₂ ◌∷◌ (omega arith) (ap₂ ◌∷◌ (omega arith) (ap₂ ◌∷◌ (omega arith) refl)))
+-- the four bytes of a serial
+four_there : (b : List ℕ) → AllBytes b → 5 ≤ length b → four (number b 1) ++ drop 5 b ≡ drop 1 b
+four_there b all long =
+    let b1 = all 1 (omega arith) in
+    let b2 = all 2 (omega arith) in
+    let b3 = all 3 (omega arith) in
+    let b4 = all 4 (omega arith) in
+    let spells : four (number b 1) ≡ get_or b 1 0 ∷ get_or b 2 0 ∷ get_or b 3 0 ∷ get_or b 4 0 ∷ [] =
+    ap₂ ◌∷◌ (omega arith) (ap₂ ◌∷◌ (omega arith) (ap₂ ◌∷◌ (omega arith) (ap₂ ◌∷◌ (omega arith) refl))) in
+    let d1 = drop_more b 1 0 (omega arith) in
+    let d2 = drop_more b 2 0 (omega arith) in
+    let d3 = drop_more b 3 0 (omega arith) in
+    let d4 = drop_more b 4 0 (omega arith) in
+    ap (λ x. x ++ drop 5 b) spells ∙ cc
 
 pub header_writes_back : (b : List ℕ) (h : Heading) → AllBytes b → header_reading b ≡ Ok h → header_bytes h ≡ b
 header_writes_back b h all is =
-    sym (ap header_bytes t.2)
-    ∙ ap (λ s. get_or b 0 0 ∷ (s ++ (get_or b 5 0 ∷ drop 6 b)))
-    (four-number (get_or b 1 0) (get_or b 2 0) (get_or b 3 0) (get_or b 4 0) (all 1 (omega (arith, long))) (all 2 (omega (arith, long))) (all 3 (omega (arith, long))) (all 4 (omega (arith, long))))
-    ∙ sym first_six
-  where
-    t : (false ≡ false) × (header_sized (length b) ≡ true) × (headed b ≡ h)
-    t = both_passed false (header_sized (length b)) Lengths Lengths (headed b) h is
-
-    long : 6 ≤ length b
-    long = let f = t.1 in grind (arith, nat_tests)
-
-    next : (i : ℕ) → i < 6 → drop i b ≡ get_or b i 0 ∷ drop (i + 1) b
-    next i l = drop_more b i 0 (omega (arith, long))
-
-    first_six : b ≡ get_or b 0 0 ∷ get_or b 1 0 ∷ get_or b 2 0 ∷ get_or b 3 0 ∷ get_or b 4 0 ∷ get_or b 5 0 ∷ drop 6 b
-    first_six =
-        next 0 (lit< tt)
-        ∙ ap (λ x. get_or b 0 0 ∷ x) (next 1 (lit< tt)
-        ∙ ap (λ x. get_or b 1 0 ∷ x) (next 2 (lit< tt)
-        ∙ ap (λ x. get_or b 2 0 ∷ x) (next 3 (lit< tt)
-        ∙ ap (λ x. get_or b 3 0 ∷ x) (next 4 (lit< tt)
-        ∙ ap (λ x. get_or b 4 0 ∷ x) (next 5 (lit< tt))))))
+    let t : (false ≡ false) × (header_sized (length b) ≡ true) × (headed b ≡ h) = both_passed false (header_sized (length b)) Lengths Lengths (headed b) h is in
+    let f = t.1 in
+    let long : 6 ≤ length b = grind (arith, nat_tests) in
+    let first : b ≡ get_or b 0 0 ∷ drop 1 b = drop_more b 0 0 (omega arith) in
+    let serial : four (number b 1) ++ drop 5 b ≡ drop 1 b = four_there b all (omega arith) in
+    let kind : drop 5 b ≡ get_or b 5 0 ∷ drop 6 b = drop_more b 5 0 (omega arith) in
+    sym (ap header_bytes t.2) ∙ cc

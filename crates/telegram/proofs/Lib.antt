@@ -1,3 +1,4 @@
 pub mod Accepts
 pub mod Frames
 pub mod Laws
+pub mod OneKind

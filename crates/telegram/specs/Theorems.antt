@@ -2,6 +2,8 @@
 use Rattle.std.specs.Prelude.{◌≡◌, ℕ, List, Ok}
 use Rattle.block.specs.Bytes.{AllBytes}
 use Rattle.telegram.specs.Format.{Parts, Sized, written, reading}
+use Rattle.telegram.specs.declared.kind.Kind.{Kind}
+use Rattle.telegram.specs.Kind.{kind_byte}
 use Rattle.telegram.specs.Header.{Heading, Fits, header_bytes, header_reading}
 
 pub record FormatLaws : Type 0 where
@@ -13,3 +15,5 @@ pub record FormatLaws : Type 0 where
   pub header_writes_back : (b : List ℕ) (h : Heading) → AllBytes b → header_reading b ≡ Ok h → header_bytes h ≡ b
   -- only what has the sizes of a telegram reads
   pub reads_sized : (b : List ℕ) (p : Parts) → reading b ≡ Ok p → Sized p
+  -- each byte is one kind
+  pub one_kind : (k j : Kind) → kind_byte k ≡ kind_byte j → k ≡ j

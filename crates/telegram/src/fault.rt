@@ -21,7 +21,7 @@ impl TelegramFault {
         self as u32
     }
 
-    /// What is wrong, in words.
+    /// What is wrong, in words. `Display` writes them, and a layer above passes them on with no heap.
     pub fn words(self) -> &'static str
         ensures { result.now ≡ words self }
     {

@@ -9,7 +9,7 @@ use crate::fault::TelegramFault;
 pub use crate::kind::Kind;
 use crate::sizes::{MAX_NOTE, MIN_HEADER, header_fits};
 
-#[derive(Clone, Copy)]
+#[derive(Clone, Copy, PartialEq, Eq, Debug)]
 pub struct Header<'a> {
     pub gauge: u8,
     pub serial: u32,
@@ -24,12 +24,16 @@ impl Header<'_> {
         ensures rewrites { IfOk result (λ h. header_bytes (heading h) ≡ bytes.now) }
     {
         match bytes {
-            [gauge, s3, s2, s1, s0, kind, note @ ..] if header_fits(bytes.len()) => Ok(Header {
-                gauge: *gauge,
-                serial: u32::from_be_bytes([*s3, *s2, *s1, *s0]),
-                kind: Kind::from(*kind),
-                note,
-            }),
+            &[gauge, s3, s2, s1, s0, kind, ref note @ ..] if header_fits(bytes.len()) => {
+                let serial = u32::from_be_bytes([s3, s2, s1, s0]);
+                let kind = Kind::from(kind);
+                Ok(Header {
+                    gauge,
+                    serial,
+                    kind,
+                    note,
+                })
+            }
             _ => Err(TelegramFault::Lengths),
         }
     }

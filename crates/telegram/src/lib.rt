@@ -11,7 +11,7 @@ pub mod reading;
 pub mod sizes;
 pub mod writing;
 
-/// States that reading and writing undo each other.
+/// States that reading and writing undo each other, and that each byte is one kind.
 pub fn format_laws()
     ensures { FormatLaws }
 {}

@@ -20,7 +20,7 @@ pub struct Places {
 }
 
 /// The parts of a telegram, in the buffer that it was read from.
-#[derive(Clone, Copy)]
+#[derive(Clone, Copy, PartialEq, Eq, Debug)]
 pub struct Fields<'a> {
     pub header: &'a [u8],
     pub tag: &'a [u8],
