@@ -1,7 +1,7 @@
 -- The hash, as the code computes it.
-use Rattle.std.proofs.Common.{◌≡◌, ℕ, suc, ◌+◌, ◌^◌, ◌<◌, true, false, cond, List, [], ◌∷◌, ◌++◌, length, get_or, take, Some, None, Option, sym, refl, ap, ◌∙◌, ap₂, mod-eq_of_lt, add-one}
+use Rattle.std.proofs.Common.{◌≡◌, ℕ, suc, ◌^◌, ◌<◌, true, false, cond, List, [], ◌∷◌, ◌++◌, length, Some, None, Option, sym, refl, ap, ◌∙◌, ap₂, mod-eq_of_lt, add-one}
 use lib.Bits.{bit_xor, xor_assoc, xor_zero_r, xor_lt}
-use Rattle.std.proofs.lemmas.List.{take_more, length_push}
+use Rattle.std.proofs.lemmas.List.{length_push}
 use Rattle.block.specs.Field.{double, product, power}
 use Rattle.block.proofs.Laws.{one_product, double_is, product_lt, product_mod, product_zero, product_one, product_comm, product_assoc, product-xor-right}
 use Rattle.mode.specs.Hash.{weighted, poly, squared, header_squared, term, hash}
@@ -49,12 +49,9 @@ pub poly_none : (l : ℕ) → poly l [] ≡ 1
 unfolding poly weighted power
 poly_none l = refl
 
--- a turn of the loop over the blocks bs: s is the polynomial of those before the one at i, which is b
-pub poly_turn : (l : ℕ) (bs : List ℕ) (i s b t : ℕ) → i < length bs → b < 2 ^ 128 → b ≡ get_or bs i 0
-    → s ≡ poly l (take i bs) → t ≡ bit_xor (product l s) b → t ≡ poly l (take (i + 1) bs)
-poly_turn l bs i s b t inside block here before turned =
-    turned ∙ ap (λ (p : ℕ). bit_xor (product l p) b) before ∙ sym (poly_more l (take i bs) b block)
-    ∙ ap (λ (x : ℕ). poly l (take i bs ++ (x ∷ []))) here ∙ ap (poly l) (sym (take_more bs i 0 inside))
+-- s is the polynomial of some blocks, and t that of one more, which is b
+pub poly_turn : (l : ℕ) (xs : List ℕ) (s b t : ℕ) → b < 2 ^ 128 → s ≡ poly l xs → t ≡ bit_xor (product l s) b → t ≡ poly l (xs ++ (b ∷ []))
+poly_turn l xs s b t block before turned = turned ∙ ap (λ (p : ℕ). bit_xor (product l p) b) before ∙ sym (poly_more l xs b block)
 
 -- ---- a square, and its factor
 

@@ -1,5 +1,6 @@
 -- Opening undoes sealing, and nothing else opens.
-use Rattle.std.proofs.Common.{◌≡◌, ℕ, ◌^◌, ◌<◌, Bool, true, false, cond, eqb, List, Some, None, Option, sym, refl, ap, ◌∙◌, ap₂, arith, eq-eqb, eqb-true}
+use Rattle.std.proofs.Common.{◌≡◌, ℕ, ◌^◌, ◌<◌, cond, eqb, List, Some, None, Option, sym, refl, ap, ◌∙◌, ap₂, eq-eqb, eqb-true}
+use Rattle.std.proofs.lemmas.Option.{cond_some, none-some}
 use Rattle.mode.specs.Hash.{hash}
 use Rattle.mode.specs.Sealing.{Sealed, sealed_by, opened_by, sealed, opened}
 use Rattle.mode.specs.Stream.{streamed}
@@ -21,11 +22,9 @@ module _ (l : ℕ) (e d : ℕ → ℕ) (h : Option (List ℕ)) where
 
   some_only : (s : ℕ) (n m : List ℕ) → judged s n ≡ Some m → (hash l h n ≡ s) × (n ≡ m)
   unfolding judged
-  some_only s n m = by_cases (eqb (hash l h n) s) refl
-    where
-      by_cases : (b : Bool) → eqb (hash l h n) s ≡ b → cond b (Some n) None ≡ Some m → (hash l h n ≡ s) × (n ≡ m)
-      by_cases true is some = (eqb-true (hash l h n) s is, cc)
-      by_cases false is some = let z : ◌≡◌ {A = ℕ} 0 1 = cc in absurd (omega arith)
+  some_only s n m some =
+      let found = cond_some (eqb (hash l h n) s) n m some in
+      (eqb-true (hash l h n) s found.0, found.1)
 
   reseals_by : (c : Sealed) (m : List ℕ) → e (d c.tag) ≡ c.tag → opened_by l e d h c ≡ Some m → sealed_by l e h m ≡ c
   unfolding opened_by sealed_by judged
@@ -46,7 +45,7 @@ inverses s k h law key =
       opens = opens;
       reseals = reseals;
       one = λ m n same. let p = opens m in let q = opens n in let r = ap (opened s k h) same in cc;
-      refused = λ c none m seals. let p = opens m in let q = ap (opened s k h) seals in let z : ◌≡◌ {A = ℕ} 0 1 = cc in omega arith;
+      refused = λ c none m seals. none-some m (sym none ∙ ap (opened s k h) (sym seals) ∙ opens m);
       refuses = λ c block no_one. none_or_some (opened s k h c) (λ m some. no_one m (reseals c m block some));
     }
   where

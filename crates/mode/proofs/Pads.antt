@@ -1,27 +1,12 @@
 -- The blocks of a padded string, by the string's own bytes.
-use Rattle.std.proofs.Common.{◌≡◌, ℕ, zero, suc, ◌+◌, ◌-◌, ◌*◌, ◌/◌, ◌%◌, ◌<◌, ◌≤◌, Bool, true, false, cond, eqb, List, [], ◌∷◌, ◌++◌, length, get_or, take, drop, set, replicate, sym, refl, ap, ◌∙◌, ap₂, le_of_suc-le-suc, not-suc-le-zero, arith, length-append, length-drop, drop-drop, eqb-true}
+use Rattle.std.proofs.Common.{◌≡◌, ℕ, zero, suc, map, ◌+◌, ◌-◌, ◌*◌, ◌/◌, ◌%◌, ◌<◌, ◌≤◌, true, false, cond, List, [], ◌∷◌, ◌++◌, length, get_or, take, drop, set, replicate, sym, refl, ap, ◌∙◌, ap₂, le_of_suc-le-suc, not-suc-le-zero, arith, length-append, length-drop, drop-drop}
 use native.Mathlib.Nat.{sub-zero, suc-sub-suc}
-use borrow.Author.Tests.{eqb-false}
 use lib.ListN.{length-replicate}
 use lib.Seq.{take-append-le, drop-append-le}
-use Rattle.std.proofs.lemmas.List.{take_all}
+use Rattle.std.specs.Simd.{first_chunks}
+use Rattle.std.proofs.lemmas.List.{take_all, take_more, map-append}
 use Rattle.block.specs.Bytes.{spelled}
 use Rattle.mode.specs.Padding.{whole, pad, blocks, padded}
-
--- a string is whole blocks, or it is not
-data Kind (x : List ℕ) : Type 0 where
-  is_whole : 0 < length x → length x % 16 ≡ 0 → whole x ≡ true → Kind x
-  is_part : (length x % 16 ≡ 0 → length x ≡ 0) → whole x ≡ false → Kind x
-
-kind : (x : List ℕ) → Kind x
-kind x = by_cases (eqb (length x) 0) (eqb (length x % 16) 0) refl refl
-  where
-    by_cases : (a b : Bool) → eqb (length x) 0 ≡ a → eqb (length x % 16) 0 ≡ b → Kind x
-    by_cases true b p q = is_part (λ _. eqb-true (length x) 0 p) (ap (λ a. cond a false (eqb (length x % 16) 0)) p)
-    by_cases false true p q =
-        let some = eqb-false (length x) 0 p in
-        is_whole (omega (arith, some)) (eqb-true (length x % 16) 0 q) (ap₂ (λ a b. cond a false b) p q)
-    by_cases false false p q = is_part (λ e. absurd (eqb-false (length x % 16) 0 q e)) (ap₂ (λ a b. cond a false b) p q)
 
 -- what is put behind a string that is not whole
 abbrev filling : List ℕ → List ℕ
@@ -35,72 +20,51 @@ pad_part : (x : List ℕ) → whole x ≡ false → pad x ≡ x ++ filling x
 unfolding pad
 pad_part x w = ap (λ b. cond b x (x ++ filling x)) w
 
-length_filled : (x : List ℕ) → length (x ++ filling x) ≡ length x + (1 + (15 - length x % 16))
-length_filled x =
-    length-append x (filling x) ∙ ap (λ (n : ℕ). length x + n) (omega (arith, length-replicate {A = ℕ} (15 - length x % 16) 0))
+-- ---- the blocks of a string
 
-length-pad : (x : List ℕ) → length (pad x) ≡ ((length x - 1) / 16 + 1) * 16
-length-pad x =
-    elim (kind x) [
-      | is_whole some even w ↦ ap length (pad-whole x w) ∙ omega arith
-      | is_part odd w ↦ ap length (pad_part x w) ∙ length_filled x ∙ counted (length x) odd
-    ]
-  where
-    counted : (n : ℕ) → (n % 16 ≡ 0 → n ≡ 0) → n + (1 + (15 - n % 16)) ≡ ((n - 1) / 16 + 1) * 16
-    counted zero odd = refl
-    counted (suc n) odd = let no : suc n % 16 ≡ 0 → ⊥ = λ e. let z = odd e in omega arith in omega (arith, no)
-
-length-blocks : (n : ℕ) (x : List ℕ) → length (blocks n x) ≡ n
+-- a string's whole blocks, as the code cuts them
+pub blocks_cut : (x : List ℕ) (cs : List (List ℕ)) (i : ℕ) → cs ≡ first_chunks 16 (length x / 16) x → length cs ≤ i
+    → map spelled (take i cs) ≡ blocks (length x / 16) x
 unfolding blocks
-length-blocks zero x = refl
-length-blocks (suc n) x = ap suc (length-blocks n (drop 16 x))
+blocks_cut x cs i cut all = ap (map spelled) (take_all i cs all ∙ cut) ∙ each (length x / 16) x
+  where
+    each : (n : ℕ) (x : List ℕ) → map spelled (first_chunks 16 n x) ≡ blocks n x
+    each zero x = refl
+    each (suc n) x = ap (λ bs. spelled (take 16 x) ∷ bs) (each n (drop 16 x))
 
-pub length-padded : (x : List ℕ) → length (padded x) ≡ (length x - 1) / 16 + 1
+pub blocks_more : (cs : List (List ℕ)) (i : ℕ) → i < length cs → map spelled (take (i + 1) cs) ≡ map spelled (take i cs) ++ (spelled (get_or cs i []) ∷ [])
+blocks_more cs i inside = ap (map spelled) (take_more cs i [] inside) ∙ map-append spelled (take i cs) (get_or cs i [] ∷ [])
+
+-- ---- .. after padding
+
+pub padded-whole : (x : List ℕ) → whole x ≡ true → padded x ≡ blocks (length x / 16) x
 unfolding padded
-length-padded x = length-blocks (length (pad x) / 16) (pad x) ∙ omega (arith, length-pad x)
+padded-whole x w = ap (λ y. blocks (length y / 16) y) (pad-whole x w)
 
-blocks_at : (n : ℕ) (x : List ℕ) (i : ℕ) → i < n → get_or (blocks n x) i 0 ≡ spelled (take 16 (drop (16 * i) x))
+-- one block more than n, which z fills up
+blocks_filled : (n : ℕ) (x z : List ℕ) → n * 16 ≤ length x → length (drop (n * 16) x) + length z ≡ 16
+    → blocks (suc n) (x ++ z) ≡ blocks n x ++ (spelled (drop (n * 16) x ++ z) ∷ [])
 unfolding blocks
-blocks_at zero x i h = absurd (omega arith)
-blocks_at (suc n) x zero h = refl
-blocks_at (suc n) x (suc i) h =
-    blocks_at n (drop 16 x) i (le_of_suc-le-suc h)
-    ∙ ap (λ y. spelled (take 16 y)) (drop-drop (16 * i) 16 x ∙ ap (λ (k : ℕ). drop k x) (omega arith))
+blocks_filled zero x z within full = ap (λ y. spelled y ∷ []) (take_all 16 (x ++ z) (omega (arith, length-append x z)))
+blocks_filled (suc n) x z within full =
+    let further : drop (n * 16) (drop 16 x) ≡ drop (suc n * 16) x = drop-drop (n * 16) 16 x ∙ ap (λ (k : ℕ). drop k x) (omega arith) in
+    ap₂ (λ y ys. spelled y ∷ blocks (suc n) ys) (take-append-le 16 x z (omega arith)) (drop-append-le 16 x z (omega arith))
+    ∙ ap (λ bs. spelled (take 16 x) ∷ bs)
+    (blocks_filled n (drop 16 x) z (simp length-drop (omega arith)) (ap (λ y. length y + length z) further ∙ full)
+    ∙ ap (λ y. blocks n (drop 16 x) ++ (spelled (y ++ z) ∷ [])) further)
 
-padded_at : (x : List ℕ) (i : ℕ) → i < length (padded x) → get_or (padded x) i 0 ≡ spelled (take 16 (drop (16 * i) (pad x)))
+-- the last block of what is not whole has the bytes that are left, 0x80 and zeros
+pub padded_part : (x rest : List ℕ) → rest ≡ drop (length x / 16 * 16) x → whole x ≡ false
+    → padded x ≡ blocks (length x / 16) x ++ (spelled (rest ++ (0x80 ∷ replicate (15 - length rest) 0)) ∷ [])
 unfolding padded
-padded_at x i h = blocks_at (length (pad x) / 16) (pad x) i (omega (arith, length-blocks (length (pad x) / 16) (pad x)))
-
--- a block that the string fills
-pub padded_inside : (x : List ℕ) (i : ℕ) → i < length (padded x) → 16 * i + 16 ≤ length x
-    → get_or (padded x) i 0 ≡ spelled (take 16 (drop (16 * i) x))
-padded_inside x i h inside = padded_at x i h ∙ ap spelled (same (kind x))
-  where
-    same : Kind x → take 16 (drop (16 * i) (pad x)) ≡ take 16 (drop (16 * i) x)
-    same (is_whole some even w) = ap (λ y. take 16 (drop (16 * i) y)) (pad-whole x w)
-    same (is_part odd w) =
-        ap (λ y. take 16 (drop (16 * i) y)) (pad_part x w)
-        ∙ ap (take 16) (drop-append-le (16 * i) x (filling x) (omega arith))
-        ∙ take-append-le 16 (drop (16 * i) x) (filling x) (simp length-drop (omega arith))
-
--- the last block, where the string ends inside it
-pub padded_last : (x : List ℕ) (i : ℕ) → i < length (padded x) → length x - 16 * i < 16
-    → get_or (padded x) i 0 ≡ spelled (drop (16 * i) x ++ (0x80 ∷ replicate (15 - length (drop (16 * i) x)) 0))
-padded_last x i h last = padded_at x i h ∙ ap spelled (same (kind x))
-  where
-    within : 16 * i ≤ length x
-    within = omega (arith, length-padded x)
-
-    rest : length (drop (16 * i) x) ≡ length x % 16
-    rest = length-drop (16 * i) x ∙ omega (arith, within)
-
-    same : Kind x → take 16 (drop (16 * i) (pad x)) ≡ drop (16 * i) x ++ (0x80 ∷ replicate (15 - length (drop (16 * i) x)) 0)
-    same (is_whole some even w) = absurd (omega (arith, length-padded x))
-    same (is_part odd w) =
-        ap (λ y. take 16 (drop (16 * i) y)) (pad_part x w)
-        ∙ ap (take 16) (drop-append-le (16 * i) x (filling x) within)
-        ∙ take_all 16 (drop (16 * i) x ++ filling x) (omega (arith, length-append (drop (16 * i) x) (filling x), rest, length-replicate {A = ℕ} (15 - length x % 16) 0))
-        ∙ ap (λ (n : ℕ). drop (16 * i) x ++ (0x80 ∷ replicate (15 - n) 0)) (sym rest)
+padded_part x rest is w =
+    let n : length rest ≡ length x % 16 = ap length is ∙ length-drop (length x / 16 * 16) x ∙ omega arith in
+    let z : length (filling x) ≡ 16 - length x % 16 = ap suc (length-replicate {A = ℕ} (15 - length x % 16) 0) ∙ omega arith in
+    let long : length (x ++ filling x) / 16 ≡ suc (length x / 16) = ap (λ (k : ℕ). k / 16) (length-append x (filling x)) ∙ omega (arith, z) in
+    ap (λ y. blocks (length y / 16) y) (pad_part x w)
+    ∙ ap (λ (k : ℕ). blocks k (x ++ filling x)) long
+    ∙ blocks_filled (length x / 16) x (filling x) (omega arith) (ap (λ y. length y + length (filling x)) (sym is) ∙ omega (arith, n, z))
+    ∙ ap₂ (λ y (k : ℕ). blocks (length x / 16) x ++ (spelled (y ++ (0x80 ∷ replicate (15 - k) 0)) ∷ [])) (sym is) (sym n)
 
 -- a string written over the front of zeros, and a byte behind it
 pub written_over : (n : ℕ) (xs : List ℕ) (v : ℕ) → length xs ≤ n

@@ -1,9 +1,8 @@
 -- What is XORed with the same stream twice is as it was.
 use Rattle.std.proofs.Common.{◌≡◌, ℕ, zero, suc, ◌+◌, ◌-◌, ◌*◌, ◌/◌, ◌%◌, ◌<◌, ◌≤◌, min, List, [], ◌∷◌, ◌++◌, length, get_or, take, drop, set, sym, refl, ap, ◌∙◌, ap₂, append_assoc, append-nil, le_of_suc-le-suc, not-suc-le-zero, add-zero, suc-add, zero-add, add-one, arith, length-append, length-drop, length-take, length-take-le, drop-drop}
-use native.Mathlib.Nat.{zero-min, min-zero, suc-min-suc}
 use lib.Bits.{bit_xor}
 use borrow.Rule.Slice.PartMut.{put_mid}
-use Rattle.std.proofs.lemmas.List.{take_all, drop_all, take_at, drop_at}
+use Rattle.std.proofs.lemmas.List.{take_all, drop_all, take_at, drop_at, take_min, drop_min}
 use Rattle.block.specs.Bytes.{bytes}
 use Rattle.block.proofs.Laws.{xor_twice}
 use Rattle.block.proofs.Spelling.{length-bytes}
@@ -114,17 +113,6 @@ stream_at e s i n h =
     let whole : n ≡ i + suc (n - (i + 1)) = omega arith in
     ap (λ (m : ℕ). drop (16 * i) (stream e s 0 m)) whole
     ∙ stream-past e s i (suc (n - (i + 1))) 0 ∙ ap (λ (j : ℕ). stream e s j (suc (n - (i + 1)))) (zero-add i)
-
--- as much of a string as there is, up to n
-take_min : (n : ℕ) (xs : List ℕ) → take (min n (length xs)) xs ≡ take n xs
-take_min zero xs = ap (λ (m : ℕ). take m xs) (zero-min (length xs))
-take_min (suc n) [] = ap (λ (m : ℕ). take {A = ℕ} m []) (min-zero (suc n))
-take_min (suc n) (x ∷ xs) = ap (λ (m : ℕ). take m (x ∷ xs)) (suc-min-suc n (length xs)) ∙ ap (λ r. x ∷ r) (take_min n xs)
-
-drop_min : (n : ℕ) (xs : List ℕ) → drop (min n (length xs)) xs ≡ drop n xs
-drop_min zero xs = ap (λ (m : ℕ). drop m xs) (zero-min (length xs))
-drop_min (suc n) [] = ap (λ (m : ℕ). drop {A = ℕ} m []) (min-zero (suc n))
-drop_min (suc n) (x ∷ xs) = ap (λ (m : ℕ). drop m (x ∷ xs)) (suc-min-suc n (length xs)) ∙ drop_min n xs
 
 -- a block more of xs comes under the stream ks, of which the block at a is key
 module _ (xs ks key more : List ℕ) (a : ℕ) (within : a ≤ length xs) (enough : length xs ≤ length ks)

@@ -5,7 +5,7 @@ ghost use Rattle.mode.specs.Padding.{padded};
 ghost use Rattle.std.specs.Option.{option_copied};
 ghost use Rattle.std.specs.Prelude.{◌≡◌};
 
-use crate::padding::{is_whole, padded_block, padded_len};
+use crate::padding::{filled, is_whole};
 use block::Block;
 use multiplier::Multiplier;
 
@@ -13,9 +13,13 @@ use multiplier::Multiplier;
 fn polynomial<M: Multiplier>(multiplier: &M, text: &[u8]) -> Block
     ensures { num result ≡ poly (M.element multiplier.now) (padded text.now) }
 {
+    let (blocks, rest) = text.as_chunks::<16>();
     let mut sum = Block::ONE;
-    for i in 0..padded_len(text) {
-        sum = multiplier.times(sum) ^ padded_block(text, i);
+    for block in blocks {
+        sum = multiplier.times(sum) ^ Block::from_bytes(*block);
+    }
+    if !is_whole(text) {
+        sum = multiplier.times(sum) ^ filled(rest);
     }
     sum
 }

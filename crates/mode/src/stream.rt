@@ -11,8 +11,8 @@ fn xor_into(part: &mut [u8], key: [u8; 16])
     requires { length part.old ≤ 16 }
     ensures { part.new ≡ xors part.old key }
 {
-    for i in 0..part.len() {
-        part[i] ^= key[i];
+    for (i, byte) in part.iter_mut().enumerate() {
+        *byte ^= key[i];
     }
 }
 
@@ -21,7 +21,7 @@ fn counter(start: Block, i: usize) -> Block
     requires { i + 1 < 2 ^ 64 }
     ensures { num result ≡ bit_xor (num start) (i + 1) }
 {
-    start ^ Block::from_number(i as u64 + 1)
+    start ^ Block::from(i as u64 + 1)
 }
 
 /// XORs `text` with the stream that starts from `start`.
@@ -29,6 +29,7 @@ pub fn apply_stream<C: Cipher>(cipher: &C, start: Block, text: &mut [u8])
     ensures { text.new ≡ streamed ((C.scheme cipher.now).enc (C.loaded cipher.now)) (num start) text.old }
 {
     let n = text.len();
+    // parts by index: once `chunks_mut` ends, a proof knows the text's length, and not its bytes
     for i in 0..n.div_ceil(16) {
         let key = cipher.encipher(counter(start, i)).to_bytes();
         let at = 16 * i;
