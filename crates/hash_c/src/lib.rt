@@ -1,34 +1,45 @@
 // The hash alone, over each multiplier, for measuring one against the other.
 #![tactic(auto)]
 
-ghost use Rattle.hash_c.specs.Hashing.{Hashed};
-ghost use Rattle.std.specs.Option.{option_map};
-ghost use Rattle.std.specs.Prelude.{◌≡◌, None};
+ghost use Rattle.block.specs.Bytes.{bytes, spelled};
+ghost use Rattle.hash_c.specs.Hashing.{Hashed, sized};
+ghost use Rattle.mode.specs.Hash.{hash as hashed};
+ghost use Rattle.std.specs.Prelude.{cond, is_ok, None, ◌≡◌};
 
 use block::Block;
 use mode::hash::hash;
 use multiplier::{Doubling, Multiplier, Table};
 
-/// No header.
-fn absent() -> Option<&'static [u8]>
-    ensures { option_map (λ x. x.now) result ≡ None }
+/// The hash key, or the place for the hash, doesn't have the size of a block.
+#[derive(Clone, Copy, PartialEq, Eq, Debug)]
+struct WrongSize;
+
+/// Writes the hash of the text, with no header, under the hash key.
+fn hash_into<M: Multiplier + Drop>(
+    hash_key: &[u8],
+    text: &[u8],
+    out: &mut [u8],
+) -> Result<(), WrongSize>
+    ensures fits { is_ok result ≡ sized hash_key.now out.old }
+    ensures leaves { out.new ≡ cond (is_ok result) (bytes 16 (hashed (spelled hash_key.now) None text.now)) out.old }
 {
-    None
+    let hash_key = hash_key.as_array::<16>().ok_or(WrongSize)?;
+    let out = out.as_mut_array::<16>().ok_or(WrongSize)?;
+    let mut multiplier = M::new();
+    multiplier.load(Block::from_bytes(*hash_key));
+    *out = hash(&multiplier, None, text).to_bytes();
+    Ok(())
 }
 
-/// Writes the hash of the text, with no header, under the hash key: 0, or 4 where a size is wrong.
-fn hash_into<M: Multiplier>(multiplier: &mut M, hash_key: &[u8], text: &[u8], out: &mut [u8]) -> u32
-    ensures { Hashed hash_key.now text.now out.old result out.new }
+/// The number that C is answered: 0, or 4 where a size is wrong.
+fn number(answer: Result<(), WrongSize>) -> u32
+    ensures { result ≡ cond (is_ok answer) 0 4 }
 {
-    if hash_key.len() != 16 || out.len() != 16 {
-        return 4;
+    // a number for a refusal: the C interface asks for it
+    match answer {
+        Ok(()) => 0,
+        Err(WrongSize) => 4,
     }
-    let mut bytes = [0; 16];
-    bytes.copy_from_slice(hash_key);
-    multiplier.load(Block::from_bytes(bytes));
-    let hashed = hash(multiplier, absent(), text).to_bytes();
-    out.copy_from_slice(&hashed);
-    0
 }
 
 /// The hash over the multiplier that doubles as it goes.
@@ -36,8 +47,7 @@ fn hash_into<M: Multiplier>(multiplier: &mut M, hash_key: &[u8], text: &[u8], ou
 pub extern "C" fn yotskheni_bench_hash_doubling(hash_key: &[u8], text: &[u8], out: &mut [u8]) -> u32
     ensures { Hashed hash_key.now text.now out.old result out.new }
 {
-    let mut multiplier = Doubling::new();
-    hash_into(&mut multiplier, hash_key, text, out)
+    number(hash_into::<Doubling>(hash_key, text, out))
 }
 
 /// The hash over the multiplier with a table.
@@ -45,6 +55,5 @@ pub extern "C" fn yotskheni_bench_hash_doubling(hash_key: &[u8], text: &[u8], ou
 pub extern "C" fn yotskheni_bench_hash_table(hash_key: &[u8], text: &[u8], out: &mut [u8]) -> u32
     ensures { Hashed hash_key.now text.now out.old result out.new }
 {
-    let mut multiplier = Table::new();
-    hash_into(&mut multiplier, hash_key, text, out)
+    number(hash_into::<Table>(hash_key, text, out))
 }
