@@ -18,14 +18,6 @@ mod tests {
 \x0a\x6c\x00\x00\x00\x00\x00\x00\x02\x1c\x00\x00\x00\x00\x00\x1a\
 \x0a\x6c\x00\x00\x00\x00\x00\x00\x02\x1c\x00\x00\x00\x00\x00\x18";
 
-    // What a buffer is refused by.
-    fn fault_of(buffer: &[u8]) -> Option<TelegramFault> {
-        match fields(buffer) {
-            Ok(_) => None,
-            Err(fault) => Some(fault),
-        }
-    }
-
     // The good telegram with one byte changed.
     fn damaged(at: usize, byte: u8) -> [u8; 53] {
         let mut bytes = *GOOD;
@@ -37,10 +29,10 @@ mod tests {
 
     #[test]
     fn a_front_is_refused(rt: HostRuntime) {
-        for n in 0..53usize {
-            assert_eq!(rt; fault_of(&GOOD[..n]), Some(TelegramFault::Lengths));
+        for n in 0..GOOD.len() {
+            assert_eq!(rt; fields(&GOOD[..n]).err(), Some(TelegramFault::Lengths));
         }
-        assert_eq!(rt; fault_of(GOOD), None);
+        assert_eq!(rt; fields(GOOD).err(), None);
     }
 
     #[test]
@@ -60,41 +52,33 @@ mod tests {
             (20, 17, TelegramFault::Lengths),
         ];
         for (at, byte, fault) in table {
-            assert_eq!(rt; fault_of(&damaged(at, byte)), Some(fault));
+            assert_eq!(rt; fields(&damaged(at, byte)).err(), Some(fault));
         }
-        assert_eq!(rt; fault_of(&[2]), Some(TelegramFault::Version));
+        assert_eq!(rt; fields(&[2]).err(), Some(TelegramFault::Version));
     }
 
     // `n` bytes, each unlike its neighbours.
-    fn ramp(heap: Global, n: usize) -> Result<Vec<u8>, AllocError> {
-        let mut bytes = Vec::new(heap);
-        for i in 0..n {
-            bytes.push((i % 251) as u8)?;
-        }
-        Ok(bytes)
+    fn ramp(heap: Global, n: u16) -> Result<Vec<u8>, AllocError> {
+        (0..n).map(|i| (i % 251) as u8).collect(heap)
     }
 
     // Writes a frame with a note of `note` bytes into `len` bytes, and reads it again.
     fn written_and_read(rt: &impl Abort, heap: Global, note: u16, len: u16) -> Result<bool, Fail> {
-        let note = ramp(heap, usize::from(note))?;
+        let note = ramp(heap, note)?;
         let sent = Header {
             gauge: 7,
             serial: 0xfedc_ba98,
-            kind: Kind(200),
+            kind: Kind::from(200),
             note: note.as_slice(),
         };
-        let mut out = ramp(heap, usize::from(len))?;
+        let mut out = ramp(heap, len)?;
         let Ok(places) = write_frame(out.as_mut_slice(), &sent) else {
-            assert_eq!(rt; out.as_slice(), ramp(heap, usize::from(len))?.as_slice());
+            assert_eq!(rt; out.as_slice(), ramp(heap, len)?.as_slice());
             return Ok(false);
         };
         let read = fields(out.as_slice())?;
         assert_eq!(rt; read.places, places);
-        let header = Header::read(read.header)?;
-        assert_eq!(rt; header.gauge, 7);
-        assert_eq!(rt; header.serial, 0xfedc_ba98);
-        assert_eq!(rt; header.kind, Kind(200));
-        assert_eq!(rt; header.note, note.as_slice());
+        assert_eq!(rt; Header::read(read.header)?, sent);
         Ok(true)
     }
 
@@ -122,7 +106,7 @@ mod tests {
         let header = Header {
             gauge: 3,
             serial: 1,
-            kind: Kind::MEASUREMENT,
+            kind: Kind::Measurement,
             note: &[0; 10],
         };
         assert_eq!(rt; places(&header, 16)?.ciphertext.end, 53);
