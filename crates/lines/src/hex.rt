@@ -1,7 +1,7 @@
 //! Bytes in hex: two digits to a byte, and a lone dot for no bytes.
 
-ghost use Rattle.std.specs.Prelude.{◌≡◌, ◌<◌, IfSome, IfOk, Some, vec_items, string_bytes};
-ghost use Rattle.lines.specs.Answers.{Answers};
+ghost use Rattle.std.specs.Prelude.{◌≡◌, ◌<◌, ◌==◌, if◌then◌else◌, length, IfSome, IfOk, Some, vec_items, string_bytes};
+ghost use Rattle.lines.specs.Answers.{Answers, and_then};
 ghost use Rattle.lines.specs.Hex.{digit_of, byte_of, decoded, reading, digits, encoded, ReadsBack};
 ghost use Rattle.lines.specs.Laws.{WrapsReadBack, UnwrapsReadBack};
 
@@ -40,6 +40,17 @@ pub fn decode(heap: Global, field: Field, text: &[u8]) -> Result<Vec<u8>, LineFa
         bytes.push(byte(*high, *low).ok_or(LineFault::NotHex(field))?)?;
     }
     Ok(bytes)
+}
+
+/// The N bytes that the text of a field writes in hex, or `None` where it writes more or fewer.
+pub fn decode_array<const N: usize>(
+    heap: Global,
+    field: Field,
+    text: &[u8],
+) -> Result<Option<[u8; N]>, LineFault>
+    ensures { Answers (λ o. o) result (and_then (reading field text.now) (λ bs. Ok (if length bs == N then Some bs else None))) }
+{
+    Ok(<[u8; N]>::try_from(decode(heap, field, text)?.as_slice()).ok())
 }
 
 /// The digits of bytes.

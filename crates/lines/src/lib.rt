@@ -37,4 +37,17 @@ mod tests {
         assert_eq!(rt; hex::encode(rt.alloc(), &bytes)?.as_str(), "00ff7a");
         Ok(())
     }
+
+    #[test]
+    fn an_array_is_read(rt: HostRuntime) -> Result<(), Fail> {
+        assert_eq!(rt;
+            hex::decode_array::<2>(rt.alloc(), Field::Tag, b"00fF")?,
+            Some([0, 0xff])
+        );
+        assert_eq!(rt;
+            hex::decode_array::<2>(rt.alloc(), Field::Tag, b"00fF7a")?,
+            None
+        );
+        Ok(())
+    }
 }
