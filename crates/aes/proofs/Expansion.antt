@@ -5,7 +5,7 @@ use Rattle.std.proofs.lemmas.List.{take_more, take-set, take_all, get_or-set_sam
 use Rattle.fips197.specs.Field.{xtime}
 use Rattle.fips197.specs.Sbox.{sub_byte}
 use Rattle.fips197.specs.KeyExpansion.{turned, next_byte, next_key_of, expand}
-use Rattle.fips197.proofs.Bytes.{sub_small}
+use Rattle.fips197.specs.Bytes.{sub_small}
 use Rattle.fips197.proofs.Steps.{same_state}
 use Rattle.aes_tables.specs.Words.{word}
 use Rattle.aes.specs.Columns.{byte_at, unpack}

@@ -6,7 +6,7 @@ use Rattle.fips197.specs.Field.{xtime}
 use Rattle.fips197.specs.Sbox.{sub_byte}
 use Rattle.fips197.specs.State.{IsState, cell}
 use Rattle.fips197.specs.KeyExpansion.{turned, next_byte, next_key_of, expand}
-use Rattle.fips197.proofs.Bytes.{sub_small}
+use Rattle.fips197.specs.Bytes.{sub_small}
 use Rattle.fips197.proofs.Linear.{xtime_small}
 use Rattle.fips197.proofs.Steps.{made, cell_small}
 

@@ -1,4 +1,3 @@
-pub mod Bytes
 pub mod Linear
 pub mod Steps
 pub mod Mixes

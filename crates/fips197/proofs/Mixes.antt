@@ -3,7 +3,7 @@ use Rattle.std.proofs.Common.{◌≡◌, ℕ, ◌+◌, ◌%◌, ◌<◌, List, s
 use lib.Bits.{bit_xor, xor_zero_r}
 use Rattle.fips197.specs.Field.{xtime, times, mul}
 use Rattle.fips197.specs.State.{IsState, cell, quad, mix, mix_columns, inv_mix_columns}
-use Rattle.fips197.proofs.Bytes.{same}
+use Rattle.fips197.specs.Bytes.{same}
 use Rattle.fips197.proofs.Linear.{mul_small, mul-quad, quad_small, across, turn, turn²}
 use Rattle.fips197.proofs.Steps.{cell_state, is_state, made, cell_small}
 

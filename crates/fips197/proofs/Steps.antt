@@ -4,7 +4,7 @@ use lib.Bits.{bit_xor, xor_lt}
 use Rattle.std.proofs.lemmas.List.FromFn.{get_or-map-range_with_len, fill_by_all}
 use Rattle.fips197.specs.Sbox.{sub_byte, inv_sub_byte}
 use Rattle.fips197.specs.State.{IsState, cell, state, sub_bytes, inv_sub_bytes, shift_rows, inv_shift_rows, add_round_key}
-use Rattle.fips197.proofs.Bytes.{sub_back, back_sub, sub_small, inv_sub_small}
+use Rattle.fips197.specs.Bytes.{sub_back, back_sub, sub_small, inv_sub_small}
 use Rattle.fips197.proofs.Linear.{cancel}
 
 -- ---- states by their cells

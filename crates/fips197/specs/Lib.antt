@@ -1,3 +1,4 @@
+pub mod Bytes
 pub mod Cipher
 pub mod Field
 pub mod KeyExpansion

@@ -11,9 +11,16 @@ pub record Inverts : Type 0 where
   pub at_zero : inverse 0 ≡ 0
   pub product_one : (a : ℕ) → 0 < a → a < 256 → mul a (inverse a) ≡ 1
 
+-- a map of bytes to bytes, and one that another undoes
+abbrev pub TakesBytes : (ℕ → ℕ) → Type 0
+TakesBytes f = (a : ℕ) → a < 256 → f a < 256
+
+abbrev pub IsUndone : (ℕ → ℕ) → (ℕ → ℕ) → Type 0
+IsUndone f g = (a : ℕ) → a < 256 → g (f a) ≡ a
+
 pub record SboxLaws : Type 0 where
-  pub undone : (a : ℕ) → a < 256 → inv_sub_byte (sub_byte a) ≡ a
-  pub redone : (a : ℕ) → a < 256 → sub_byte (inv_sub_byte a) ≡ a
+  pub undone : IsUndone sub_byte inv_sub_byte
+  pub redone : IsUndone inv_sub_byte sub_byte
 
 -- under every key, both maps take states to states, and each undoes the other
 pub record CipherLaws : Type 0 where

@@ -2,7 +2,7 @@
 use Rattle.std.proofs.Common.{ℕ, ◌*◌, ◌/◌, ◌%◌, ◌^◌, ap, ◌∙◌, arith}
 use lib.Bits.{bit_or}
 use Rattle.fips197.specs.Field.{xtime, times, mul}
-use Rattle.fips197.proofs.Bytes.{same}
+use Rattle.fips197.specs.Bytes.{same}
 use Rattle.aes_tables.specs.Words.{word, spread}
 use Rattle.aes_tables.proofs.inv_mix_2.Goals as goal
 

@@ -1,5 +1,7 @@
--- What holds of each byte, by a test of all 256.
-use Rattle.std.proofs.Common.{◌≡◌, ℕ, zero, suc, ◌-◌, ◌<◌, Bool, true, false, T, eqb, ltb, refl, inl, inr, le_of_suc-le-suc, not-suc-le-zero, eq-or-lt_of_le, arith, eqb→eq, ltb→lt}
+-- What holds of each byte: by a test of all 256, or by a table that is compared with what the rule gives at 0, 1, .., 255.
+use Rattle.std.proofs.Common.{◌≡◌, ℕ, zero, suc, ◌-◌, ◌<◌, Bool, true, false, T, eqb, ltb, map, get_or, refl, inl, inr, zero-add, le_of_suc-le-suc, not-suc-le-zero, eq-or-lt_of_le, arith, eqb→eq, ltb→lt}
+use Rattle.std.specs.List.{range_with_len}
+use Rattle.std.proofs.lemmas.List.FromFn.{get_or-map-range_with_len}
 use Rattle.fips197.specs.Field.{xtime, times, mul, squares, inverse}
 use Rattle.fips197.specs.Sbox.{rotate, affine, unaffine, sub_byte, inv_sub_byte}
 use Rattle.fips197.specs.Theorems.{Inverts, SboxLaws}
@@ -35,6 +37,10 @@ same f g t a h = eqb→eq (f a) (g a) (below (λ a. eqb (f a) (g a)) 256 t a h)
 
 small : (f : ℕ → ℕ) → T (upto (λ a. ltb (f a) 256) 256) → (a : ℕ) → a < 256 → f a < 256
 small f t a h = ltb→lt (f a) 256 (below (λ a. ltb (f a) 256) 256 t a h)
+
+-- the entry of a byte in the table of f; where a table is written out, the check computes f at each byte and compares
+pub entry : (f : ℕ → ℕ) (a : ℕ) → a < 256 → get_or (map f (range_with_len 0 256)) a 0 ≡ f a
+entry f a h = get_or-map-range_with_len f 0 256 a a 0 h (zero-add a)
 
 pub inverts : Inverts
 unfolding xtime times mul squares inverse

@@ -1,0 +1,9 @@
+use Rattle.std.proofs.Common.{arith}
+use Rattle.fips197.specs.Bytes.{entry}
+use Rattle.fips197.specs.Field.{xtime, times, mul, squares, inverse}
+use Rattle.fips197.specs.Sbox.{rotate, affine, sub_byte}
+use Rattle.fips197.proofs.SubBytesSubstitution.of.Goals as goal
+
+pub returns : goal.returns
+unfolding xtime times mul squares inverse rotate affine sub_byte
+returns c = entry sub_byte c.args.a (omega arith)
