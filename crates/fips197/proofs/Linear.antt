@@ -1,49 +1,17 @@
 -- The product of bytes is linear, so the mix of a column is undone at each byte of it apart.
-use Rattle.std.proofs.Common.{◌≡◌, ℕ, zero, suc, ◌*◌, ◌/◌, ◌%◌, ◌<◌, ◌⊎◌, sym, refl, ap, ◌∙◌, ap₂, inl, inr, add-zero, one-mul, zero-mul, arith}
-use lib.Bits.{bit_xor, xor_lt, xor_assoc, xor_comm, xor_zero_r, xor_self, xor_block, xor_mod, xor_shr}
+use Rattle.std.proofs.Common.{◌≡◌, ℕ, zero, suc, ◌*◌, ◌/◌, ◌%◌, ◌<◌, refl, ap, ◌∙◌, ap₂, one-mul, zero-mul, arith, lit<}
+use lib.Bits.{bit_xor, xor_lt, xor_comm, xor_mod, xor_shr}
+use Rattle.block.proofs.Laws.{bit_cases, bits_xor, shl_xor, times_bit_xor, xor_swap}
 use Rattle.fips197.specs.Field.{xtime, times, mul}
 use Rattle.fips197.specs.State.{quad}
-
-pub exchange : (a b c d : ℕ) → bit_xor (bit_xor a b) (bit_xor c d) ≡ bit_xor (bit_xor a c) (bit_xor b d)
-exchange a b c d =
-    xor_assoc a b (bit_xor c d)
-    ∙ ap (bit_xor a) (sym (xor_assoc b c d) ∙ ap (λ (x : ℕ). bit_xor x d) (xor_comm b c) ∙ xor_assoc c b d)
-    ∙ sym (xor_assoc a c (bit_xor b d))
-
-pub cancel : (a b : ℕ) → bit_xor (bit_xor a b) b ≡ a
-cancel a b = xor_assoc a b b ∙ ap (bit_xor a) (xor_self b) ∙ xor_zero_r a
-
-bit : (n : ℕ) → n < 2 → (n ≡ 0) ⊎ (n ≡ 1)
-bit zero h = inl refl
-bit (suc zero) h = inr refl
-bit (suc (suc n)) h = absurd (omega arith)
-
-double_xor : (a b : ℕ) → bit_xor a b * 2 ≡ bit_xor (a * 2) (b * 2)
-double_xor a b =
-    sym (ap₂ bit_xor (sym (add-zero (a * 2))) (sym (add-zero (b * 2))) ∙ xor_block 1 a b 0 0 (omega arith) (omega arith) ∙ add-zero (bit_xor a b * 2))
-
--- times a number with one bit
-bit_times : (c a b : ℕ) → c < 2 → c * bit_xor a b ≡ bit_xor (c * a) (c * b)
-bit_times c a b h =
-    elim (bit c h) [
-      | inl e ↦ rw e (rw (zero-mul (bit_xor a b), zero-mul a, zero-mul b))
-      | inr e ↦ rw e (rw (one-mul (bit_xor a b), one-mul a, one-mul b))
-    ]
-
-bits_times : (c d n : ℕ) → c < 2 → d < 2 → bit_xor c d * n ≡ bit_xor (c * n) (d * n)
-bits_times c d n h k =
-    elim (bit c h) [
-      | inl e ↦ rw (e, zero-mul n)
-      | inr e ↦ elim (bit d k) [ inl f ↦ rw (e, f, zero-mul n, xor_zero_r (1 * n)) | inr f ↦ rw (e, f, zero-mul n, xor_self (1 * n)) ]
-    ]
 
 pub xtime-xor : (a b : ℕ) → a < 256 → b < 256 → xtime (bit_xor a b) ≡ bit_xor (xtime a) (xtime b)
 unfolding xtime
 xtime-xor a b h k =
     ap₂ bit_xor
-    (ap (λ (x : ℕ). x % 256) (double_xor a b) ∙ xor_mod (a * 2) (b * 2) 8)
-    (ap (λ (x : ℕ). x * 27) (xor_shr a b 7) ∙ bits_times (a / 128) (b / 128) 27 (omega arith) (omega arith))
-    ∙ exchange (a * 2 % 256) (b * 2 % 256) (a / 128 * 27) (b / 128 * 27)
+    (ap (λ (x : ℕ). x % 256) (shl_xor a b) ∙ xor_mod (a * 2) (b * 2) 8)
+    (ap (λ (x : ℕ). x * 27) (xor_shr a b 7) ∙ bits_xor (a / 128) (b / 128) 27 (omega arith) (omega arith))
+    ∙ xor_swap (a * 2 % 256) (b * 2 % 256) (a / 128 * 27) (b / 128 * 27)
 
 pub xtime_small : (a : ℕ) → a < 256 → xtime a < 256
 unfolding xtime
@@ -53,12 +21,12 @@ pub times-xor : (n p a b : ℕ) → a < 256 → b < 256 → times n p (bit_xor a
 unfolding times
 times-xor zero p a b h k = refl
 times-xor (suc n) p a b h k =
-    ap₂ bit_xor (bit_times (p % 2) a b (omega arith))
+    ap₂ bit_xor (times_bit_xor (p % 2) a b (omega arith))
     (ap (times n (p / 2)) (xtime-xor a b h k) ∙ times-xor n (p / 2) (xtime a) (xtime b) (xtime_small a h) (xtime_small b k))
-    ∙ exchange (p % 2 * a) (p % 2 * b) (times n (p / 2) (xtime a)) (times n (p / 2) (xtime b))
+    ∙ xor_swap (p % 2 * a) (p % 2 * b) (times n (p / 2) (xtime a)) (times n (p / 2) (xtime b))
 
 bit_small : (c a : ℕ) → c < 2 → a < 256 → c * a < 256
-bit_small c a h k = elim (bit c h) [ inl e ↦ rw (e, zero-mul a) (omega arith) | inr e ↦ rw (e, one-mul a) k ]
+bit_small c a h k = bit_cases (λ c. c * a < 256) (simp zero-mul (lit< tt)) (simp one-mul k) c h
 
 pub times_small : (n p a : ℕ) → a < 256 → times n p a < 256
 unfolding times
@@ -84,7 +52,7 @@ mul-quad p a b c d ha hb hc hd =
 
 pub quad-xor : (a b c d a' b' c' d' : ℕ) → bit_xor (quad a b c d) (quad a' b' c' d') ≡ quad (bit_xor a a') (bit_xor b b') (bit_xor c c') (bit_xor d d')
 quad-xor a b c d a' b' c' d' =
-    exchange (bit_xor a b) (bit_xor c d) (bit_xor a' b') (bit_xor c' d') ∙ ap₂ bit_xor (exchange a b a' b') (exchange c d c' d')
+    xor_swap (bit_xor a b) (bit_xor c d) (bit_xor a' b') (bit_xor c' d') ∙ ap₂ bit_xor (xor_swap a b a' b') (xor_swap c d c' d')
 
 -- a sum by rows is the sum by columns
 pub across : (a b c d e f g h i j k l m n o p : ℕ)
@@ -96,7 +64,7 @@ across a b c d e f g h i j k l m n o p =
 -- the terms of a sum go round
 pub turn : (a b c d : ℕ) → quad b c d a ≡ quad a b c d
 turn a b c d =
-    xor_comm (bit_xor b c) (bit_xor d a) ∙ ap (λ (x : ℕ). bit_xor x (bit_xor b c)) (xor_comm d a) ∙ exchange a d b c ∙ ap (bit_xor (bit_xor a b)) (xor_comm d c)
+    xor_comm (bit_xor b c) (bit_xor d a) ∙ ap (λ (x : ℕ). bit_xor x (bit_xor b c)) (xor_comm d a) ∙ xor_swap a d b c ∙ ap (bit_xor (bit_xor a b)) (xor_comm d c)
 
 pub turn² : (a b c d : ℕ) → quad c d a b ≡ quad a b c d
 turn² a b c d = xor_comm (bit_xor c d) (bit_xor a b)

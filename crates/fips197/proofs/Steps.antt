@@ -5,7 +5,7 @@ use Rattle.std.proofs.lemmas.List.FromFn.{get_or-map-range_with_len, fill_by_all
 use Rattle.fips197.specs.Sbox.{sub_byte, inv_sub_byte}
 use Rattle.fips197.specs.State.{IsState, cell, state, sub_bytes, inv_sub_bytes, shift_rows, inv_shift_rows, add_round_key}
 use Rattle.fips197.specs.Bytes.{sub_back, back_sub, sub_small, inv_sub_small}
-use Rattle.fips197.proofs.Linear.{cancel}
+use Rattle.block.proofs.Laws.{xor_twice}
 
 -- ---- states by their cells
 
@@ -98,4 +98,4 @@ unfolding add_round_key
 add-add w s b =
     is_state (λ r c. bit_xor (cell (add_round_key w s) r c) (cell w r c)) s b.long
     (λ r c hr hc.
-    ap (λ (x : ℕ). bit_xor x (cell w r c)) (cell_state (λ r c. bit_xor (cell s r c) (cell w r c)) r c hr hc) ∙ cancel (cell s r c) (cell w r c))
+    ap (λ (x : ℕ). bit_xor x (cell w r c)) (cell_state (λ r c. bit_xor (cell s r c) (cell w r c)) r c hr hc) ∙ xor_twice (cell s r c) (cell w r c))
