@@ -1,15 +1,17 @@
 -- The key expansion on words is the one on bytes.
-use Rattle.std.proofs.Common.{◌≡◌, ℕ, zero, suc, ◌+◌, ◌-◌, ◌%◌, ◌<◌, List, [], ◌∷◌, ◌++◌, map, length, get_or, take, set, sym, refl, ap, ◌∙◌, ap₂, arith, lit<}
+use Rattle.std.proofs.Common.{◌≡◌, ℕ, zero, suc, ◌+◌, ◌%◌, ◌<◌, List, [], ◌∷◌, ◌++◌, map, length, get_or, take, set, sym, refl, ap, ◌∙◌, ap₂, arith, lit<}
 use lib.Bits.{bit_xor, xor_lt, xor_zero_r}
-use Rattle.std.proofs.lemmas.List.{take_more, take-set, take_all, get_or-set_same, append_assoc}
+use Rattle.std.proofs.lemmas.List.{take_more_set, map-append, append_assoc}
 use Rattle.fips197.specs.Field.{xtime}
 use Rattle.fips197.specs.Sbox.{sub_byte}
 use Rattle.fips197.specs.KeyExpansion.{turned, next_byte, next_key_of, expand}
 use Rattle.fips197.specs.Bytes.{sub_small}
 use Rattle.fips197.proofs.Steps.{same_state}
 use Rattle.aes_tables.specs.Words.{word}
-use Rattle.aes.specs.Columns.{byte_at, unpack}
-use Rattle.aes.proofs.Rows.{by_row, byte_small, byte_word, byte_xor}
+use Rattle.aes.specs.declared.columns.Columns.{Columns}
+use Rattle.aes.specs.Columns.{byte_at, state_of, unpack}
+use Rattle.aes_tables.proofs.Tables.{by_row}
+use Rattle.aes.proofs.Rows.{byte_small, byte_word, byte_xor}
 use Rattle.aes.proofs.Unpacked.{fours, cell-unpack, get_or-fours}
 
 abbrev pub turned_word : ℕ → ℕ → ℕ
@@ -49,23 +51,26 @@ next_is rcon h w =
     same_state (λ r c. byte_at r (get_or (fours (next_word rcon w)) c 0)) (next_byte rcon (unpack w))
     (λ r c hr hc. ap (byte_at r) (get_or-fours (next_word rcon w) c hc) ∙ next_byte_lem rcon h w r c hr hc)
 
--- ---- the turns of the loop: the round keys that are made, and then what the last of them expands to
+-- ---- the round keys that are made, and those to come
 
-pub expand_more : (w : List (List ℕ)) (i r : ℕ) (y : List ℕ) → length w ≡ 11 → i < 10 → y ≡ next_key_of r (get_or w i [])
-    → take (i + 1) (set w (i + 1) y) ++ expand (10 - (i + 1)) (xtime r) (get_or (set w (i + 1) y) (i + 1) []) ≡ take i w ++ expand (10 - i) r (get_or w i [])
-unfolding expand
-expand_more w i r y l h e =
-    let n : ℕ = 10 - (i + 1) in
-    ap₂ (λ (a : List (List ℕ)) (b : List ℕ). a ++ expand n (xtime r) b)
-    (take-set w (i + 1) y ∙ take_more w i [] (omega arith)) (get_or-set_same w (i + 1) y [] (omega arith) ∙ e)
-    ∙ append_assoc (take i w) (get_or w i [] ∷ []) (expand n (xtime r) (next_key_of r (get_or w i [])))
-    ∙ ap (λ (m : ℕ). take i w ++ expand m r (get_or w i [])) (let q : suc n ≡ 10 - i = omega arith in q)
+-- the n round keys after w
+unfoldable pub after : ℕ → ℕ → List ℕ → List (List ℕ)
+after zero rcon w = []
+after (suc n) rcon w = next_key_of rcon w ∷ after n (xtime rcon) (next_key_of rcon w)
 
-pub expand_all : (w : List (List ℕ)) (i r : ℕ) → length w ≡ 11 → i ≡ 10 → take i w ++ expand (10 - i) r (get_or w i []) ≡ w
-unfolding expand
-expand_all w i r l e = rw e (sym (take_more w 10 [] (omega arith)) ∙ take_all 11 w (omega arith))
+pub after_none : (rcon : ℕ) (w : List ℕ) → after 0 rcon w ≡ []
+unfolding after
+after_none rcon w = refl
 
-pub map-set : (f : List ℕ → List ℕ) (w : List (List ℕ)) (i : ℕ) (y : List ℕ) → map f (set w i y) ≡ set (map f w) i (f y)
-map-set f [] i y = refl
-map-set f (x ∷ w) zero y = refl
-map-set f (x ∷ w) (suc i) y = ap (λ (v : List (List ℕ)). f x ∷ v) (map-set f w i y)
+pub after_more : (n m rcon r : ℕ) (w y : List ℕ) → suc n ≡ m → r ≡ xtime rcon → y ≡ next_key_of rcon w → y ∷ after n r y ≡ after m rcon w
+unfolding after
+after_more n m rcon r w y e f g = (λ i. g i ∷ after n (f i) (g i)) ∙ ap (λ (k : ℕ). after k rcon w) e
+
+pub expand_is : (n rcon : ℕ) (w : List ℕ) → w ∷ after n rcon w ≡ expand n rcon w
+unfolding expand after
+expand_is zero rcon w = refl
+expand_is (suc n) rcon w = ap (λ (v : List (List ℕ)). w ∷ v) (expand_is n (xtime rcon) (next_key_of rcon w))
+
+pub made_more : (keys : List Columns) (i : ℕ) (next : Columns) (rest : List (List ℕ)) → i < length keys
+    → map state_of (take (i + 1) (set keys i next)) ++ rest ≡ map state_of (take i keys) ++ (state_of next ∷ rest)
+made_more keys i next rest h = ap (λ (ks : List Columns). map state_of ks ++ rest) (take_more_set keys i next h) ∙ simp (map-append, append_assoc)

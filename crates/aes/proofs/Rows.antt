@@ -1,23 +1,22 @@
 -- The rows of a word.
-use Rattle.std.proofs.Common.{◌≡◌, ℕ, zero, suc, ◌+◌, ◌-◌, ◌/◌, ◌%◌, ◌^◌, ◌<◌, [], ◌∷◌, get_or, sym, ap, ◌∙◌, ap₂, mod-lt, arith, lit<}
+use Rattle.std.proofs.Common.{◌≡◌, ℕ, ◌+◌, ◌-◌, ◌/◌, ◌%◌, ◌^◌, ◌<◌, [], ◌∷◌, get_or, refl, sym, ap, div-one, ◌∙◌, ap₂, mod-lt, arith, lit<}
 use lib.Bits.{bit_xor, xor_shr, xor_mod}
+use Rattle.std.specs.Int.{to_be_bytes, w32}
 use Rattle.fips197.specs.Field.{mul}
 use Rattle.fips197.specs.State.{quad}
 use Rattle.fips197.proofs.Linear.{mul_small, turn, turn²}
 use Rattle.aes_tables.specs.Words.{word, spread}
+use Rattle.aes_tables.proofs.Tables.{by_row}
 use Rattle.aes.specs.Columns.{byte_at, mix_word}
-
--- what holds of each of four rows
-pub by_row : (P : ℕ → Type 0) → P 0 → P 1 → P 2 → P 3 → (r : ℕ) → r < 4 → P r
-by_row P a b c d zero h = a
-by_row P a b c d (suc zero) h = b
-by_row P a b c d (suc (suc zero)) h = c
-by_row P a b c d (suc (suc (suc zero))) h = d
-by_row P a b c d (suc (suc (suc (suc r)))) h = absurd (omega arith)
 
 pub byte_small : (r x : ℕ) → byte_at r x < 256
 unfolding byte_at
 byte_small r x = mod-lt (x / 256 ^ (3 - r)) (lit< tt)
+
+-- .. as the library has them
+pub byte_of : (x r : ℕ) → r < 4 → get_or (to_be_bytes w32 x) r 0 ≡ byte_at r x
+unfolding byte_at
+byte_of x = by_row (λ r. get_or (to_be_bytes w32 x) r 0 ≡ byte_at r x) refl refl refl (ap (λ (n : ℕ). n % 256) (sym (div-one x)))
 
 pub byte_word : (a b c d : ℕ) → a < 256 → b < 256 → c < 256 → d < 256 → (r : ℕ) → r < 4 → byte_at r (word a b c d) ≡ get_or (a ∷ b ∷ c ∷ d ∷ []) r 0
 unfolding byte_at word

@@ -1,52 +1,40 @@
--- The turns of the loops over the rounds, on round keys as columns.
-use Rattle.std.proofs.Common.{◌≡◌, ℕ, ◌+◌, ◌<◌, List, [], map, length, get_or, drop, sym, ap, ◌∙◌, arith}
-use Rattle.std.proofs.lemmas.List.{length-map, get_or-map}
-use Rattle.fips197.specs.Cipher.{rounds, inv_rounds, cipher, inv_cipher}
-use Rattle.fips197.specs.State.{sub_bytes, inv_sub_bytes, shift_rows, inv_shift_rows, mix_columns, inv_mix_columns, add_round_key}
-use Rattle.fips197.proofs.Rounds.{rounds_more, rounds_last, cipher_first, inv_rounds_more, inv_rounds_last, inv_cipher_first}
-use Rattle.aes.specs.Columns.{unpack}
+-- The round keys as columns: the first, those of the middle rounds, and the last.
+use Rattle.std.proofs.Common.{◌≡◌, ℕ, List, [], ◌∷◌, ◌++◌, map, length, get_or, take, drop, sym, ap, ◌∙◌, arith}
+use Rattle.std.proofs.lemmas.List.{drop_more, drop_all, drop-drop, map-append, take-append-drop}
+use Rattle.fips197.specs.Cipher.{cipher, inv_cipher}
+use Rattle.fips197.specs.State.{sub_bytes, inv_sub_bytes, shift_rows, inv_shift_rows, add_round_key}
+use Rattle.fips197.proofs.Rounds.{middle, inv_middle, cipher_is, inv_cipher_is}
+use Rattle.aes.specs.declared.columns.Columns.{Columns}
+use Rattle.aes.specs.Columns.{state_of}
 
-module _ (w : List (List ℕ)) where
-  -- a step with the round key i, which is the state that its columns hold
-  keyed : (i : ℕ) → i < length w → (f : List ℕ → List ℕ) {x : List ℕ} → x ≡ f (unpack (get_or w i [])) → x ≡ f (get_or (map unpack w) i [])
-  keyed i h f e = e ∙ ap f (sym (get_or-map unpack w i [] [] h))
+module _ (w : List Columns) (long : length w ≡ 11) where
+  abbrev key : ℕ → Columns
+  key i = get_or w i (record { 0 = [] })
 
-  pub first : (s t : List ℕ) → 0 < length w → unpack t ≡ add_round_key (unpack (get_or w 0 [])) (unpack s)
-      → rounds (drop 1 (map unpack w)) (unpack t) ≡ cipher (map unpack w) (unpack s)
-  first s t h e =
-      ap (rounds (drop 1 (map unpack w))) (keyed 0 h (λ (k : List ℕ). add_round_key k (unpack s)) e)
-      ∙ sym (cipher_first (map unpack w) (unpack s) (omega (arith, length-map w unpack)))
+  abbrev between : List Columns
+  between = take 9 (drop 1 w)
 
-  pub next : (i : ℕ) (t u : List ℕ) → i + 1 < length w → unpack u ≡ add_round_key (unpack (get_or w i [])) (mix_columns (shift_rows (sub_bytes (unpack t))))
-      → rounds (drop (i + 1) (map unpack w)) (unpack u) ≡ rounds (drop i (map unpack w)) (unpack t)
-  next i t u h e =
-      ap (rounds (drop (i + 1) (map unpack w))) (keyed i (omega arith) (λ (k : List ℕ). add_round_key k (mix_columns (shift_rows (sub_bytes (unpack t))))) e)
-      ∙ sym (rounds_more (map unpack w) i (unpack t) (omega (arith, length-map w unpack)))
+  from_first : w ≡ key 0 ∷ between ++ drop 10 w
+  from_first =
+      drop_more w 0 (record { 0 = [] }) (omega arith)
+      ∙ ap (λ (v : List Columns). key 0 ∷ v) (sym (take-append-drop 9 (drop 1 w)) ∙ ap (λ (v : List Columns). between ++ v) (drop-drop 9 1 w))
 
-  pub last : (i : ℕ) (t u : List ℕ) → i + 1 ≡ length w → unpack u ≡ add_round_key (unpack (get_or w i [])) (shift_rows (sub_bytes (unpack t)))
-      → unpack u ≡ rounds (drop i (map unpack w)) (unpack t)
-  last i t u h e =
-      keyed i (omega arith) (λ (k : List ℕ). add_round_key k (shift_rows (sub_bytes (unpack t)))) e
-      ∙ sym (rounds_last (map unpack w) i (unpack t) (omega (arith, length-map w unpack)))
+  to_last : drop 10 w ≡ key 10 ∷ []
+  to_last = drop_more w 10 (record { 0 = [] }) (omega arith) ∙ ap (λ (v : List Columns). key 10 ∷ v) (drop_all 11 w (omega arith))
 
-  pub inv_first : (i : ℕ) (s t : List ℕ) → i + 1 ≡ length w → unpack t ≡ add_round_key (unpack (get_or w i [])) (unpack s)
-      → unpack t ≡ inv_rounds (drop i (map unpack w)) (unpack s)
-  inv_first i s t h e =
-      keyed i (omega arith) (λ (k : List ℕ). add_round_key k (unpack s)) e
-      ∙ sym (inv_rounds_last (map unpack w) i (unpack s) (omega (arith, length-map w unpack)))
+  parts : map state_of w ≡ state_of (key 0) ∷ map state_of between ++ state_of (key 10) ∷ []
+  parts =
+      ap (map state_of) (from_first ∙ ap (λ (v : List Columns). key 0 ∷ between ++ v) to_last)
+      ∙ ap (λ (v : List (List ℕ)). state_of (key 0) ∷ v) (map-append state_of between (key 10 ∷ []))
 
-  pub inv_next : (i : ℕ) (s t u : List ℕ) → i + 1 < length w → unpack t ≡ inv_rounds (drop (i + 1) (map unpack w)) s
-      → unpack u ≡ inv_mix_columns (add_round_key (unpack (get_or w i [])) (inv_sub_bytes (inv_shift_rows (unpack t))))
-      → unpack u ≡ inv_rounds (drop i (map unpack w)) s
-  inv_next i s t u h d e =
-      keyed i (omega arith) (λ (k : List ℕ). inv_mix_columns (add_round_key k (inv_sub_bytes (inv_shift_rows (unpack t))))) e
-      ∙ ap (λ (x : List ℕ). inv_mix_columns (add_round_key (get_or (map unpack w) i []) (inv_sub_bytes (inv_shift_rows x)))) d
-      ∙ sym (inv_rounds_more (map unpack w) i s (omega (arith, length-map w unpack)))
+  pub cipher_of : (s t : List ℕ) → t ≡ middle (map state_of between) (add_round_key (state_of (key 0)) s)
+      → add_round_key (state_of (key 10)) (shift_rows (sub_bytes t)) ≡ cipher (map state_of w) s
+  cipher_of s t e =
+      ap (λ (x : List ℕ). add_round_key (state_of (key 10)) (shift_rows (sub_bytes x))) e
+      ∙ sym (ap (λ (v : List (List ℕ)). cipher v s) parts ∙ cipher_is (state_of (key 0)) (state_of (key 10)) (map state_of between) s)
 
-  pub inv_last : (s t u : List ℕ) → 0 < length w → unpack t ≡ inv_rounds (drop 1 (map unpack w)) s
-      → unpack u ≡ add_round_key (unpack (get_or w 0 [])) (inv_sub_bytes (inv_shift_rows (unpack t)))
-      → unpack u ≡ inv_cipher (map unpack w) s
-  inv_last s t u h d e =
-      keyed 0 h (λ (k : List ℕ). add_round_key k (inv_sub_bytes (inv_shift_rows (unpack t)))) e
-      ∙ ap (λ (x : List ℕ). add_round_key (get_or (map unpack w) 0 []) (inv_sub_bytes (inv_shift_rows x))) d
-      ∙ sym (inv_cipher_first (map unpack w) s (omega (arith, length-map w unpack)))
+  pub inv_cipher_of : (s t : List ℕ) → t ≡ inv_middle (map state_of between) (add_round_key (state_of (key 10)) s)
+      → add_round_key (state_of (key 0)) (inv_sub_bytes (inv_shift_rows t)) ≡ inv_cipher (map state_of w) s
+  inv_cipher_of s t e =
+      ap (λ (x : List ℕ). add_round_key (state_of (key 0)) (inv_sub_bytes (inv_shift_rows x))) e
+      ∙ sym (ap (λ (v : List (List ℕ)). inv_cipher v s) parts ∙ inv_cipher_is (state_of (key 0)) (state_of (key 10)) (map state_of between) s)

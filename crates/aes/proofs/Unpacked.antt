@@ -51,30 +51,16 @@ mixes_are p q u v s b =
     f c = mix_word p q u v (cell s 0 c) (cell s 1 c) (cell s 2 c) (cell s 3 c)
 
 -- columns with a round key added
-pub sums_are : (w : List ℕ) (f : ℕ → ℕ) → unpack (fours (λ c. bit_xor (f c) (get_or w c 0))) ≡ add_round_key (unpack w) (unpack (fours f))
-unfolding unpack add_round_key
-sums_are w f =
-    same_state (λ r c. byte_at r (get_or (fours (λ c. bit_xor (f c) (get_or w c 0))) c 0)) _
-    (λ r c hr hc.
-    ap (byte_at r) (get_or-fours (λ c. bit_xor (f c) (get_or w c 0)) c hc)
-    ∙ byte_xor r hr (f c) (get_or w c 0)
-    ∙ sym (ap₂ bit_xor (cell-unpack (fours f) r c hr hc ∙ ap (byte_at r) (get_or-fours f c hc)) (cell-unpack w r c hr hc)))
-
 pub added : (w xs : List ℕ) → unpack (fours (λ c. bit_xor (get_or xs c 0) (get_or w c 0))) ≡ add_round_key (unpack w) (unpack xs)
-unfolding unpack
-added w xs = sums_are w (λ c. get_or xs c 0)
+unfolding unpack add_round_key
+added w xs =
+    same_state (λ r c. byte_at r (get_or (fours (λ c. bit_xor (get_or xs c 0) (get_or w c 0))) c 0)) _
+    (λ r c hr hc.
+    ap (byte_at r) (get_or-fours (λ c. bit_xor (get_or xs c 0) (get_or w c 0)) c hc)
+    ∙ byte_xor r hr (get_or xs c 0) (get_or w c 0)
+    ∙ sym (ap₂ bit_xor (cell-unpack xs r c hr hc) (cell-unpack w r c hr hc)))
 
--- ---- the rounds
-
-pub mixed-round : (p q u v : ℕ) (w s : List ℕ) → IsState s
-    → unpack (fours (λ c. bit_xor (mix_word p q u v (cell s 0 c) (cell s 1 c) (cell s 2 c) (cell s 3 c)) (get_or w c 0))) ≡ add_round_key (unpack w) (mix p q u v s)
-mixed-round p q u v w s b =
-    sums_are w (λ c. mix_word p q u v (cell s 0 c) (cell s 1 c) (cell s 2 c) (cell s 3 c)) ∙ ap (add_round_key (unpack w)) (mixes_are p q u v s b)
-
-pub plain_round : (w s : List ℕ) → IsState s
-    → unpack (fours (λ c. bit_xor (word (cell s 0 c) (cell s 1 c) (cell s 2 c) (cell s 3 c)) (get_or w c 0))) ≡ add_round_key (unpack w) s
-plain_round w s b =
-    sums_are w (λ c. word (cell s 0 c) (cell s 1 c) (cell s 2 c) (cell s 3 c)) ∙ ap (add_round_key (unpack w)) (words_are s b)
+-- ---- the steps before a mix or a key
 
 pub forth_state : (xs : List ℕ) → IsState (shift_rows (sub_bytes (unpack xs)))
 forth_state xs = shift_state (sub_bytes (unpack xs)) (sub_state (unpack xs) (unpack_state xs))

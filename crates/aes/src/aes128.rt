@@ -1,23 +1,23 @@
 // AES-128 behind the trait of ciphers.
-ghost use Rattle.aes.specs.Columns.{unpack};
+ghost use Rattle.aes.specs.Columns.{state_of};
 ghost use Rattle.aes.specs.Scheme.{aes128};
 ghost use Rattle.fips197.specs.KeyExpansion.{round_keys_of};
 ghost use Rattle.std.specs.Prelude.{◌≡◌, map, replicate};
 ghost use Rattle.aes.specs.SchemeLaws.{aes128_lawful};
 
-use crate::columns::{Columns, from_bytes, to_bytes};
+use crate::columns::Columns;
 use crate::decrypt::decrypt;
 use crate::encrypt::encrypt;
 use crate::expand::expand;
 use block::Block;
-use cipher::Cipher;
+use cipher::{Cipher, WrongKeyLen};
 
 /// AES-128 with a key, whose round keys are expanded once.
 #[derive(Clone, Copy)]
 pub struct Aes128 {
     key: [u8; 16],
     round_keys: [Columns; 11],
-    ghost expanded: { map unpack round_keys ≡ round_keys_of key },
+    ghost expanded: { map state_of round_keys ≡ round_keys_of key },
 }
 
 impl Aes128 {
@@ -49,21 +49,16 @@ impl Cipher for Aes128 {
         self.key.len()
     }
 
-    fn load(&mut self, key: &[u8]) -> bool {
-        match <[u8; 16]>::try_from(key) {
-            Ok(bytes) => {
-                *self = Aes128::keyed(bytes);
-                true
-            }
-            Err(_) => false,
-        }
+    fn load(&mut self, key: &[u8]) -> Result<(), WrongKeyLen> {
+        *self = Aes128::keyed(<[u8; 16]>::try_from(key)?);
+        Ok(())
     }
 
     fn encipher(&self, block: Block) -> Block {
-        Block::from_bytes(to_bytes(encrypt(&self.round_keys, from_bytes(block.to_bytes()))))
+        Block::from_bytes(encrypt(&self.round_keys, Columns::from(block.to_bytes())).into())
     }
 
     fn decipher(&self, block: Block) -> Block {
-        Block::from_bytes(to_bytes(decrypt(&self.round_keys, from_bytes(block.to_bytes()))))
+        Block::from_bytes(decrypt(&self.round_keys, Columns::from(block.to_bytes())).into())
     }
 }

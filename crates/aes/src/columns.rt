@@ -1,58 +1,71 @@
 // The state as four words, each a column, its first row in the highest byte.
-ghost use Rattle.aes.specs.Columns.{byte_at, unpack};
+ghost use Rattle.aes.specs.Columns.{byte_at, state_of};
+ghost use Rattle.aes_tables.specs.Words.{word};
 ghost use Rattle.fips197.specs.State.{add_round_key};
-ghost use Rattle.std.specs.Prelude.{◌≡◌};
+ghost use Rattle.std.specs.Prelude.{◌≡◌, ◌<◌};
 
-pub type Columns = [u32; 4];
+use fips197::Substitution;
+use std::ops::BitXor;
 
-pub fn row_0(x: u32) -> u8
-    ensures { result ≡ byte_at 0 x }
-{
-    (x >> 24) as u8
+#[derive(Clone, Copy)]
+pub struct Columns(pub [u32; 4]);
+
+impl From<[u8; 16]> for Columns {
+    ghost from_gives = { λ bytes s. state_of s ≡ bytes };
+
+    fn from(bytes: [u8; 16]) -> Columns {
+        let [a, b, c, d, e, f, g, h, i, j, k, l, m, n, o, p] = bytes;
+        Columns([
+            u32::from_be_bytes([a, b, c, d]),
+            u32::from_be_bytes([e, f, g, h]),
+            u32::from_be_bytes([i, j, k, l]),
+            u32::from_be_bytes([m, n, o, p]),
+        ])
+    }
 }
 
-pub fn row_1(x: u32) -> u8
-    ensures { result ≡ byte_at 1 x }
-{
-    ((x >> 16) % 256) as u8
+impl From<Columns> for [u8; 16] {
+    ghost from_gives = { λ s bytes. bytes ≡ state_of s };
+
+    fn from(s: Columns) -> [u8; 16] {
+        let [x, y, z, v] = s.0;
+        let [a, b, c, d] = x.to_be_bytes();
+        let [e, f, g, h] = y.to_be_bytes();
+        let [i, j, k, l] = z.to_be_bytes();
+        let [m, n, o, p] = v.to_be_bytes();
+        [a, b, c, d, e, f, g, h, i, j, k, l, m, n, o, p]
+    }
 }
 
-pub fn row_2(x: u32) -> u8
-    ensures { result ≡ byte_at 2 x }
-{
-    ((x >> 8) % 256) as u8
+/// AddRoundKey.
+impl BitXor for Columns {
+    type Output = Columns;
+
+    ghost bitxor_gives = { λ s w r. state_of r ≡ add_round_key (state_of w) (state_of s) };
+
+    fn bitxor(self, w: Columns) -> Columns {
+        let [a, b, c, d] = self.0;
+        let [e, f, g, h] = w.0;
+        Columns([a ^ e, b ^ f, c ^ g, d ^ h])
+    }
 }
 
-pub fn row_3(x: u32) -> u8
-    ensures { result ≡ byte_at 3 x }
+/// The byte of a column in row `ROW`.
+pub fn row<const ROW: usize>(x: u32) -> u8
+    requires { ROW < 4 }
+    ensures { result ≡ byte_at ROW x }
 {
-    (x % 256) as u8
+    x.to_be_bytes()[ROW]
 }
 
-pub fn from_bytes(bytes: [u8; 16]) -> Columns
-    ensures { unpack result ≡ bytes }
+/// A column whose rows are from four columns, each byte substituted.
+pub fn substituted<S: Substitution>(x: u32, y: u32, z: u32, v: u32) -> u32
+    ensures { result ≡ word (S.rule (byte_at 0 x)) (S.rule (byte_at 1 y)) (S.rule (byte_at 2 z)) (S.rule (byte_at 3 v)) }
 {
-    let [a, b, c, d, e, f, g, h, i, j, k, l, m, n, o, p] = bytes;
-    [
-        u32::from_be_bytes([a, b, c, d]),
-        u32::from_be_bytes([e, f, g, h]),
-        u32::from_be_bytes([i, j, k, l]),
-        u32::from_be_bytes([m, n, o, p]),
-    ]
-}
-
-pub fn to_bytes(s: Columns) -> [u8; 16]
-    ensures { result ≡ unpack s }
-{
-    let [a, b, c, d] = s[0].to_be_bytes();
-    let [e, f, g, h] = s[1].to_be_bytes();
-    let [i, j, k, l] = s[2].to_be_bytes();
-    let [m, n, o, p] = s[3].to_be_bytes();
-    [a, b, c, d, e, f, g, h, i, j, k, l, m, n, o, p]
-}
-
-pub fn add_key(w: &Columns, s: Columns) -> Columns
-    ensures { unpack result ≡ add_round_key (unpack w.now) (unpack s) }
-{
-    [s[0] ^ w[0], s[1] ^ w[1], s[2] ^ w[2], s[3] ^ w[3]]
+    u32::from_be_bytes([
+        S::of(row::<0>(x)),
+        S::of(row::<1>(y)),
+        S::of(row::<2>(z)),
+        S::of(row::<3>(v)),
+    ])
 }

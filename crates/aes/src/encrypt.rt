@@ -1,58 +1,53 @@
 // Cipher: a round takes each byte of a column through a table that substitutes and mixes at once.
-ghost use Rattle.aes_tables.specs.Words.{word};
-ghost use Rattle.aes.specs.Columns.{byte_at, mix_word, unpack};
+ghost use Rattle.aes.specs.Columns.{byte_at, mix_word, state_of};
 ghost use Rattle.fips197.specs.Cipher.{cipher};
 ghost use Rattle.fips197.specs.Sbox.{sub_byte};
-ghost use Rattle.fips197.specs.State.{add_round_key, mix_columns, shift_rows, sub_bytes};
+ghost use Rattle.fips197.specs.State.{mix_columns, shift_rows, sub_bytes};
 ghost use Rattle.std.specs.Prelude.{◌≡◌, map};
 
-use crate::columns::{Columns, add_key, row_0, row_1, row_2, row_3};
-use aes_tables::{sub_mix_0, sub_mix_1, sub_mix_2, sub_mix_3};
-use fips197::sub;
+use crate::columns::{Columns, row, substituted};
+use aes_tables::sub_mix;
+use fips197::SubBytes;
 
 /// A column of a round, before the round key is added: its rows are from four columns.
-fn mixed_column(x: u32, y: u32, z: u32, v: u32) -> u32
+fn mixed(x: u32, y: u32, z: u32, v: u32) -> u32
     ensures { result ≡ mix_word 2 3 1 1 (sub_byte (byte_at 0 x)) (sub_byte (byte_at 1 y)) (sub_byte (byte_at 2 z)) (sub_byte (byte_at 3 v)) }
 {
-    (sub_mix_0(row_0(x)) ^ sub_mix_1(row_1(y))) ^ (sub_mix_2(row_2(z)) ^ sub_mix_3(row_3(v)))
+    (sub_mix::<0>(row::<0>(x)) ^ sub_mix::<1>(row::<1>(y)))
+        ^ (sub_mix::<2>(row::<2>(z)) ^ sub_mix::<3>(row::<3>(v)))
 }
 
-/// A column of the last round, which does not mix.
-fn plain_column(x: u32, y: u32, z: u32, v: u32) -> u32
-    ensures { result ≡ word (sub_byte (byte_at 0 x)) (sub_byte (byte_at 1 y)) (sub_byte (byte_at 2 z)) (sub_byte (byte_at 3 v)) }
+fn round(s: Columns) -> Columns
+    ensures { state_of result ≡ mix_columns (shift_rows (sub_bytes (state_of s))) }
 {
-    u32::from_be_bytes([sub(row_0(x)), sub(row_1(y)), sub(row_2(z)), sub(row_3(v))])
+    let [a, b, c, d] = s.0;
+    Columns([
+        mixed(a, b, c, d),
+        mixed(b, c, d, a),
+        mixed(c, d, a, b),
+        mixed(d, a, b, c),
+    ])
 }
 
-fn round(w: &Columns, s: Columns) -> Columns
-    ensures { unpack result ≡ add_round_key (unpack w.now) (mix_columns (shift_rows (sub_bytes (unpack s)))) }
+/// The last round, which does not mix.
+fn last_round(s: Columns) -> Columns
+    ensures { state_of result ≡ shift_rows (sub_bytes (state_of s)) }
 {
-    [
-        mixed_column(s[0], s[1], s[2], s[3]) ^ w[0],
-        mixed_column(s[1], s[2], s[3], s[0]) ^ w[1],
-        mixed_column(s[2], s[3], s[0], s[1]) ^ w[2],
-        mixed_column(s[3], s[0], s[1], s[2]) ^ w[3],
-    ]
+    let [a, b, c, d] = s.0;
+    Columns([
+        substituted::<SubBytes>(a, b, c, d),
+        substituted::<SubBytes>(b, c, d, a),
+        substituted::<SubBytes>(c, d, a, b),
+        substituted::<SubBytes>(d, a, b, c),
+    ])
 }
 
-fn last_round(w: &Columns, s: Columns) -> Columns
-    ensures { unpack result ≡ add_round_key (unpack w.now) (shift_rows (sub_bytes (unpack s))) }
+pub fn encrypt(keys: &[Columns; 11], s: Columns) -> Columns
+    ensures { state_of result ≡ cipher (map state_of keys.now) (state_of s) }
 {
-    [
-        plain_column(s[0], s[1], s[2], s[3]) ^ w[0],
-        plain_column(s[1], s[2], s[3], s[0]) ^ w[1],
-        plain_column(s[2], s[3], s[0], s[1]) ^ w[2],
-        plain_column(s[3], s[0], s[1], s[2]) ^ w[3],
-    ]
-}
-
-pub fn encrypt(w: &[Columns; 11], s: Columns) -> Columns
-    ensures { unpack result ≡ cipher (map unpack w.now) (unpack s) }
-{
-    let mut t = add_key(&w[0], s);
-    for i in 1..10 {
-        let u = round(&w[i], t);
-        t = u;
+    let mut t = s ^ keys[0];
+    for key in &keys[1..10] {
+        t = round(t) ^ *key;
     }
-    last_round(&w[10], t)
+    last_round(t) ^ keys[10]
 }

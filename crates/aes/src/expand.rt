@@ -1,13 +1,13 @@
 // The key expansion, on words.
+ghost use Rattle.aes.specs.Columns.{byte_at, state_of};
 ghost use Rattle.aes_tables.specs.Words.{word};
-ghost use Rattle.aes.specs.Columns.{byte_at, unpack};
 ghost use Rattle.fips197.specs.Field.{xtime};
 ghost use Rattle.fips197.specs.KeyExpansion.{next_key_of, round_keys_of};
 ghost use Rattle.fips197.specs.Sbox.{sub_byte};
 ghost use Rattle.std.specs.Prelude.{◌≡◌, map, bit_xor};
 
-use crate::columns::{Columns, from_bytes, row_0, row_1, row_2, row_3};
-use fips197::sub;
+use crate::columns::Columns;
+use fips197::{SubBytes, Substitution};
 
 /// The next round's constant.
 fn doubled(rcon: u8) -> u8
@@ -20,32 +20,36 @@ fn doubled(rcon: u8) -> u8
 fn turned(rcon: u8, x: u32) -> u32
     ensures { result ≡ word (bit_xor (sub_byte (byte_at 1 x)) rcon) (sub_byte (byte_at 2 x)) (sub_byte (byte_at 3 x)) (sub_byte (byte_at 0 x)) }
 {
+    let [a, b, c, d] = x.to_be_bytes();
     u32::from_be_bytes([
-        sub(row_1(x)) ^ rcon,
-        sub(row_2(x)),
-        sub(row_3(x)),
-        sub(row_0(x)),
+        SubBytes::of(b) ^ rcon,
+        SubBytes::of(c),
+        SubBytes::of(d),
+        SubBytes::of(a),
     ])
 }
 
 /// The round key after `w`.
-fn next_key(rcon: u8, w: &Columns) -> Columns
-    ensures { unpack result ≡ next_key_of rcon (unpack w.now) }
+fn next_key(rcon: u8, w: Columns) -> Columns
+    ensures { state_of result ≡ next_key_of rcon (state_of w) }
 {
-    let a = w[0] ^ turned(rcon, w[3]);
-    let b = w[1] ^ a;
-    let c = w[2] ^ b;
-    let d = w[3] ^ c;
-    [a, b, c, d]
+    let [a, b, c, d] = w.0;
+    let a = a ^ turned(rcon, d);
+    let b = b ^ a;
+    let c = c ^ b;
+    let d = d ^ c;
+    Columns([a, b, c, d])
 }
 
 pub fn expand(key: [u8; 16]) -> [Columns; 11]
-    ensures { map unpack result ≡ round_keys_of key }
+    ensures { map state_of result ≡ round_keys_of key }
 {
-    let mut keys = [from_bytes(key); 11];
+    let mut key = Columns::from(key);
+    let mut keys = [key; 11];
     let mut rcon = 1;
-    for i in 0..10 {
-        keys[i + 1] = next_key(rcon, &keys[i]);
+    for next in &mut keys[1..] {
+        key = next_key(rcon, key);
+        *next = key;
         rcon = doubled(rcon);
     }
     keys

@@ -1,43 +1,41 @@
--- The turns of a loop over the rounds.
-use Rattle.std.proofs.Common.{◌≡◌, ℕ, ◌+◌, ◌<◌, List, [], ◌∷◌, length, get_or, drop, sym, refl, ap, ◌∙◌, not-suc-le-zero, arith}
-use Rattle.std.proofs.lemmas.List.{drop_more, drop_all}
+-- The rounds between the first round key and the last, one after another.
+use Rattle.std.proofs.Common.{◌≡◌, ℕ, List, [], ◌∷◌, ◌++◌, refl, ap}
 use Rattle.fips197.specs.State.{sub_bytes, inv_sub_bytes, shift_rows, inv_shift_rows, mix_columns, inv_mix_columns, add_round_key}
 use Rattle.fips197.specs.Cipher.{rounds, inv_rounds, cipher, inv_cipher}
 
-two_more : (w : List (List ℕ)) (i : ℕ) → i + 1 < length w → drop i w ≡ get_or w i [] ∷ get_or w (i + 1) [] ∷ drop (i + 1 + 1) w
-two_more w i h = drop_more w i [] (omega arith) ∙ ap (λ (v : List (List ℕ)). get_or w i [] ∷ v) (drop_more w (i + 1) [] h)
+abbrev pub middle : List (List ℕ) → List ℕ → List ℕ
+middle [] s = s
+middle (w ∷ ws) s = middle ws (add_round_key w (mix_columns (shift_rows (sub_bytes s))))
 
-last_one : (w : List (List ℕ)) (i : ℕ) → i + 1 ≡ length w → drop i w ≡ get_or w i [] ∷ []
-last_one w i e = drop_more w i [] (omega arith) ∙ ap (λ (v : List (List ℕ)). get_or w i [] ∷ v) (drop_all (i + 1) w (omega arith))
-
-pub rounds_more : (w : List (List ℕ)) (i : ℕ) (s : List ℕ) → i + 1 < length w
-    → rounds (drop i w) s ≡ rounds (drop (i + 1) w) (add_round_key (get_or w i []) (mix_columns (shift_rows (sub_bytes s))))
+rounds_are : (ws : List (List ℕ)) (last s : List ℕ) → rounds (ws ++ last ∷ []) s ≡ add_round_key last (shift_rows (sub_bytes (middle ws s)))
 unfolding rounds
-rounds_more w i s h =
-    ap (λ (v : List (List ℕ)). rounds v s) (two_more w i h)
-    ∙ ap (λ (v : List (List ℕ)). rounds v (add_round_key (get_or w i []) (mix_columns (shift_rows (sub_bytes s))))) (sym (drop_more w (i + 1) [] h))
+rounds_are [] last s = refl
+rounds_are (w ∷ []) last s = refl
+rounds_are (w ∷ v ∷ ws) last s = rounds_are (v ∷ ws) last (add_round_key w (mix_columns (shift_rows (sub_bytes s))))
 
-pub rounds_last : (w : List (List ℕ)) (i : ℕ) (s : List ℕ) → i + 1 ≡ length w → rounds (drop i w) s ≡ add_round_key (get_or w i []) (shift_rows (sub_bytes s))
-unfolding rounds
-rounds_last w i s e = ap (λ (v : List (List ℕ)). rounds v s) (last_one w i e)
-
-pub cipher_first : (w : List (List ℕ)) (s : List ℕ) → 0 < length w → cipher w s ≡ rounds (drop 1 w) (add_round_key (get_or w 0 []) s)
+pub cipher_is : (first last : List ℕ) (ws : List (List ℕ)) (s : List ℕ)
+    → cipher (first ∷ ws ++ last ∷ []) s ≡ add_round_key last (shift_rows (sub_bytes (middle ws (add_round_key first s))))
 unfolding cipher
-cipher_first [] s h = absurd (not-suc-le-zero h)
-cipher_first (x ∷ xs) s h = refl
+cipher_is first last ws s = rounds_are ws last (add_round_key first s)
 
-pub inv_rounds_more : (w : List (List ℕ)) (i : ℕ) (s : List ℕ) → i + 1 < length w
-    → inv_rounds (drop i w) s ≡ inv_mix_columns (add_round_key (get_or w i []) (inv_sub_bytes (inv_shift_rows (inv_rounds (drop (i + 1) w) s))))
+-- .. and backwards, the last round key first
+abbrev pub inv_middle : List (List ℕ) → List ℕ → List ℕ
+inv_middle [] s = s
+inv_middle (w ∷ ws) s = inv_mix_columns (add_round_key w (inv_sub_bytes (inv_shift_rows (inv_middle ws s))))
+
+pub inv_middle-push : (ws : List (List ℕ)) (w s : List ℕ)
+    → inv_middle (ws ++ w ∷ []) s ≡ inv_middle ws (inv_mix_columns (add_round_key w (inv_sub_bytes (inv_shift_rows s))))
+inv_middle-push [] w s = refl
+inv_middle-push (v ∷ ws) w s = ap (λ (x : List ℕ). inv_mix_columns (add_round_key v (inv_sub_bytes (inv_shift_rows x)))) (inv_middle-push ws w s)
+
+inv_rounds_are : (ws : List (List ℕ)) (last s : List ℕ) → inv_rounds (ws ++ last ∷ []) s ≡ inv_middle ws (add_round_key last s)
 unfolding inv_rounds
-inv_rounds_more w i s h =
-    ap (λ (v : List (List ℕ)). inv_rounds v s) (two_more w i h)
-    ∙ ap (λ (v : List (List ℕ)). inv_mix_columns (add_round_key (get_or w i []) (inv_sub_bytes (inv_shift_rows (inv_rounds v s))))) (sym (drop_more w (i + 1) [] h))
+inv_rounds_are [] last s = refl
+inv_rounds_are (w ∷ []) last s = refl
+inv_rounds_are (w ∷ v ∷ ws) last s =
+    ap (λ (x : List ℕ). inv_mix_columns (add_round_key w (inv_sub_bytes (inv_shift_rows x)))) (inv_rounds_are (v ∷ ws) last s)
 
-pub inv_rounds_last : (w : List (List ℕ)) (i : ℕ) (s : List ℕ) → i + 1 ≡ length w → inv_rounds (drop i w) s ≡ add_round_key (get_or w i []) s
-unfolding inv_rounds
-inv_rounds_last w i s e = ap (λ (v : List (List ℕ)). inv_rounds v s) (last_one w i e)
-
-pub inv_cipher_first : (w : List (List ℕ)) (s : List ℕ) → 0 < length w → inv_cipher w s ≡ add_round_key (get_or w 0 []) (inv_sub_bytes (inv_shift_rows (inv_rounds (drop 1 w) s)))
+pub inv_cipher_is : (first last : List ℕ) (ws : List (List ℕ)) (s : List ℕ)
+    → inv_cipher (first ∷ ws ++ last ∷ []) s ≡ add_round_key first (inv_sub_bytes (inv_shift_rows (inv_middle ws (add_round_key last s))))
 unfolding inv_cipher
-inv_cipher_first [] s h = absurd (not-suc-le-zero h)
-inv_cipher_first (x ∷ xs) s h = refl
+inv_cipher_is first last ws s = ap (λ (x : List ℕ). add_round_key first (inv_sub_bytes (inv_shift_rows x))) (inv_rounds_are ws last s)

@@ -1,10 +1,9 @@
-use Rattle.std.proofs.Common.{◌≡◌, ◌≤◌, map, drop}
-use Rattle.fips197.specs.Cipher.{inv_rounds}
-use Rattle.aes.specs.Columns.{unpack}
+use Rattle.std.proofs.Common.{◌≡◌, map}
+use Rattle.fips197.proofs.Rounds.{inv_middle}
+use Rattle.aes.specs.Columns.{state_of}
 use Rattle.aes.proofs.decrypt.decrypt.Given as goal
 
--- the rounds from the last round key back to that of i
-abbrev pub invariant-loop-i : goal.invariant-loop-i
-invariant-loop-i l =
-    (1 ≤ l.i)
-    × ((s : _) → unpack l.initial.t ≡ inv_rounds (drop 10 (map unpack l.w)) s → unpack l.t ≡ inv_rounds (drop l.i (map unpack l.w)) s)
+-- what is left of the middle rounds gives what all of them do
+abbrev pub invariant-loop-key : goal.invariant-loop-key
+invariant-loop-key l =
+    inv_middle (map state_of l.key-iterator.iter.rest.now) (state_of l.t) ≡ inv_middle (map state_of l.initial.key-iterator.iter.rest.now) (state_of l.initial.t)

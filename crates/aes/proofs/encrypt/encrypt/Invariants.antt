@@ -1,8 +1,8 @@
 use Rattle.std.proofs.Common.{◌≡◌, map, drop}
-use Rattle.fips197.specs.Cipher.{rounds}
-use Rattle.aes.specs.Columns.{unpack}
+use Rattle.fips197.proofs.Rounds.{middle}
+use Rattle.aes.specs.Columns.{state_of}
 use Rattle.aes.proofs.encrypt.encrypt.Given as goal
 
--- what is left of the rounds gives what all of them do
-abbrev pub invariant-loop-i : goal.invariant-loop-i
-invariant-loop-i l = rounds (drop l.i (map unpack l.w)) (unpack l.t) ≡ rounds (drop 1 (map unpack l.w)) (unpack l.initial.t)
+-- what is left of the middle rounds gives what all of them do
+abbrev pub invariant-loop-key : goal.invariant-loop-key
+invariant-loop-key l = middle (map state_of (drop l.key-index l.key-items)) (state_of l.t) ≡ middle (map state_of l.key-items) (state_of l.initial.t)

@@ -1,14 +1,12 @@
-use Rattle.std.proofs.Common.{[], ◌∷◌, get_or, ap, ◌∙◌}
-use lib.Bits.{bit_xor}
+use Rattle.std.proofs.Common.{[], ◌∷◌, ap, ◌∙◌}
 use Rattle.fips197.specs.State.{shift_rows, sub_bytes}
 use Rattle.aes.specs.Columns.{unpack}
-use Rattle.aes.proofs.Unpacked.{plain_round, forth_state}
+use Rattle.aes.proofs.Unpacked.{words_are, forth_state}
 use Rattle.aes.proofs.encrypt.last_round.Goals as goal
 
 pub returns : goal.returns
 unfolding unpack sub_bytes shift_rows
 returns c =
-    let w = c.args.w.now in
-    let s = c.args.s in
-    ap unpack (λ i. bit_xor (c.plain_column.ensures i) (get_or w 0 0) ∷ bit_xor (c.plain_column-2.ensures i) (get_or w 1 0) ∷ bit_xor (c.plain_column-3.ensures i) (get_or w 2 0) ∷ bit_xor (c.plain_column-4.ensures i) (get_or w 3 0) ∷ [])
-    ∙ plain_round w (shift_rows (sub_bytes (unpack s))) (forth_state s)
+    let s = c.args.s.0 in
+    ap unpack (λ i. c.substituted.ensures i ∷ c.substituted-2.ensures i ∷ c.substituted-3.ensures i ∷ c.substituted-4.ensures i ∷ [])
+    ∙ words_are (shift_rows (sub_bytes (unpack s))) (forth_state s)

@@ -13,4 +13,4 @@ chain w x =
 
 pub returns : goal.returns
 unfolding chain
-returns c = ap (λ (x : ℕ). unpack (chain c.args.w.now x)) c.turned.ensures ∙ next_is c.args.rcon (omega arith) c.args.w.now
+returns c = ap (λ (x : ℕ). unpack (chain c.args.w.0 x)) c.turned.ensures ∙ next_is c.args.rcon (omega arith) c.args.w.0

@@ -2,10 +2,10 @@ use Rattle.std.proofs.Common.{[], ◌∷◌, ap, ◌∙◌}
 use Rattle.fips197.specs.State.{inv_mix_columns}
 use Rattle.aes.specs.Columns.{unpack}
 use Rattle.aes.proofs.Unpacked.{mixes_are, unpack_state}
-use Rattle.aes.proofs.decrypt.inv_mix.Goals as goal
+use Rattle.aes.proofs.decrypt.inv_mix_columns.Goals as goal
 
 pub returns : goal.returns
 unfolding unpack inv_mix_columns
 returns c =
-    ap unpack (λ i. c.inv_mixed.ensures i ∷ c.inv_mixed-2.ensures i ∷ c.inv_mixed-3.ensures i ∷ c.inv_mixed-4.ensures i ∷ [])
-    ∙ mixes_are 14 11 13 9 (unpack c.args.s) (unpack_state c.args.s)
+    let s = c.args.s.0 in
+    ap unpack (λ i. c.inv_mixed.ensures i ∷ c.inv_mixed-2.ensures i ∷ c.inv_mixed-3.ensures i ∷ c.inv_mixed-4.ensures i ∷ []) ∙ mixes_are 14 11 13 9 (unpack s) (unpack_state s)

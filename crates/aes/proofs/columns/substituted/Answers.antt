@@ -1,6 +1,6 @@
 use Rattle.aes_tables.specs.Words.{word}
-use Rattle.aes.proofs.encrypt.plain_column.Goals as goal
+use Rattle.aes.proofs.columns.substituted.Goals as goal
 
 pub returns : goal.returns
 unfolding word
-returns c = cc
+returns g c = cc

@@ -3,7 +3,7 @@ use Rattle.fips197.specs.State.{IsState}
 use Rattle.aes_tables.specs.Words.{word}
 use Rattle.aes.specs.Columns.{unpack}
 use Rattle.aes.proofs.Unpacked.{words_are}
-use Rattle.aes.proofs.columns.from_bytes.Goals as goal
+use Rattle.aes.proofs.columns.ColumnsFromArrayU816.from.Goals as goal
 
 pub returns : goal.returns
 unfolding word

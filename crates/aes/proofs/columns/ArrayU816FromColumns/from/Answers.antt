@@ -1,6 +1,6 @@
 use Rattle.std.proofs.Common.{div-one}
 use Rattle.aes.specs.Columns.{byte_at, unpack}
-use Rattle.aes.proofs.columns.to_bytes.Goals as goal
+use Rattle.aes.proofs.columns.ArrayU816FromColumns.from.Goals as goal
 
 pub returns : goal.returns
 unfolding unpack byte_at
