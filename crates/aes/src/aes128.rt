@@ -50,7 +50,8 @@ impl Cipher for Aes128 {
     }
 
     fn load(&mut self, key: &[u8]) -> Result<(), WrongKeyLen> {
-        *self = Aes128::keyed(<[u8; 16]>::try_from(key)?);
+        let key = <[u8; 16]>::try_from(key)?;
+        *self = Aes128::keyed(key);
         Ok(())
     }
 

@@ -1,6 +1,6 @@
 use Rattle.std.proofs.Common.{◌≡◌, ◌+◌, List, [], map, get_or, take, drop, refl, sym, ap, ◌∙◌, drop_of_length-le}
 use Rattle.std.proofs.lemmas.List.{at_drop_more}
-use Rattle.fips197.specs.State.{add_round_key}
+use Rattle.fips197.specs.State.{add_round_key, shift_rows, sub_bytes}
 use Rattle.fips197.proofs.Rounds.{middle}
 use Rattle.aes.specs.declared.columns.Columns.{Columns}
 use Rattle.aes.specs.Columns.{state_of}
@@ -25,5 +25,5 @@ returns c =
     let t = state_of c.loop-key.t in
     let none_left : drop c.loop-key.key-index keys ≡ [] = drop_of_length-le keys c.loop-key-test.false in
     let done : t ≡ middle (map state_of keys) (state_of c.bitxor-t.result) = rw none_left at c.loop-key.invariant in
-    c.bitxor.ensures ∙ ap (add_round_key _) c.last_round.ensures
-    ∙ cipher_of c.args.keys.now c.told-keys (state_of c.args.s) t (done ∙ ap (middle (map state_of keys)) c.bitxor-t.ensures)
+    let last : state_of c.bitxor.result ≡ add_round_key (state_of (get_or c.args.keys.now 10 (record { 0 = [] }))) (shift_rows (sub_bytes t)) = cc in
+    last ∙ cipher_of c.args.keys.now c.told-keys (state_of c.args.s) t (done ∙ ap (middle (map state_of keys)) c.bitxor-t.ensures)
