@@ -7,6 +7,7 @@ mod tests {
     use cipher::Cipher;
     use cipher::bench::Bench;
     use cipher::whitened::Whitened;
+    use mode::hbs::Hbs;
     use multiplier::{Doubling, Multiplier, Table};
     use seal::fault::SealFault;
     use seal::wrapping::{unwrap, wrap};
@@ -16,7 +17,7 @@ mod tests {
 
     // The sixteen bytes of the block that holds `n`.
     fn block(n: u64) -> [u8; 16] {
-        Block::from_number(n).to_bytes()
+        Block::from(n).to_bytes()
     }
 
     // 0x80, thirteen zeros, and two bytes.
@@ -26,28 +27,16 @@ mod tests {
 
     // `n` bytes, each unlike its neighbours.
     fn ramp(heap: Global, n: usize) -> Result<Vec<u8>, AllocError> {
-        let mut bytes = Vec::new(heap);
-        for i in 0..n {
-            bytes.push((i % 251) as u8)?;
-        }
-        Ok(bytes)
+        (0..n).map(|i| (i % 251) as u8).collect(heap)
     }
 
     // A header of `n` bytes, or none.
     fn header_of(heap: Global, n: Option<usize>) -> Result<Option<Vec<u8>>, AllocError> {
-        match n {
-            Some(n) => Ok(Some(ramp(heap, n)?)),
-            None => Ok(None),
-        }
+        n.map(|n| ramp(heap, n)).transpose()
     }
 
     fn is_zero(bytes: &[u8]) -> bool {
-        for b in bytes {
-            if *b != 0 {
-                return false;
-            }
-        }
-        true
+        bytes.iter().all(|b| *b == 0)
     }
 
     fn seal(
@@ -56,14 +45,8 @@ mod tests {
         tag: &mut [u8],
         text: &mut [u8],
     ) -> Result<(), SealFault> {
-        wrap(
-            &mut Bench::new(),
-            &mut Doubling::new(),
-            key,
-            header,
-            tag,
-            text,
-        )
+        let mut hbs = Hbs::new(Bench::new(), Doubling::new());
+        wrap(&mut hbs, key, header, tag, text)
     }
 
     fn open(
@@ -72,14 +55,8 @@ mod tests {
         tag: &[u8],
         text: &mut [u8],
     ) -> Result<(), SealFault> {
-        unwrap(
-            &mut Bench::new(),
-            &mut Doubling::new(),
-            key,
-            header,
-            tag,
-            text,
-        )
+        let mut hbs = Hbs::new(Bench::new(), Doubling::new());
+        unwrap(&mut hbs, key, header, tag, text)
     }
 
     // That a message seals to this tag and this ciphertext, and opens again.
@@ -116,11 +93,10 @@ mod tests {
 
     #[test]
     fn with_no_header(rt: HostRuntime) -> Result<(), Fail> {
-        let header = header_of(rt.alloc(), None)?;
         worked(
             &rt,
             block(2),
-            header.as_deref(),
+            None,
             block(3).to_vec(rt.alloc())?,
             block(10),
             &block(8),
@@ -129,13 +105,12 @@ mod tests {
 
     #[test]
     fn with_an_empty_header(rt: HostRuntime) -> Result<(), Fail> {
-        let header = header_of(rt.alloc(), Some(0))?;
         let tag = led_by_80(0x20, 0x4b);
         let ciphertext = led_by_80(0x20, 0x49);
         worked(
             &rt,
             block(2),
-            header.as_deref(),
+            Some(&[]),
             block(3).to_vec(rt.alloc())?,
             tag,
             &ciphertext,
@@ -157,13 +132,12 @@ mod tests {
 
     #[test]
     fn with_the_zero_key(rt: HostRuntime) -> Result<(), Fail> {
-        let header = header_of(rt.alloc(), None)?;
         let mut stream = block(1).to_vec(rt.alloc())?;
         stream.extend_from_slice(&block(2))?;
         worked(
             &rt,
             block(0),
-            header.as_deref(),
+            None,
             [0; 32].to_vec(rt.alloc())?,
             block(0),
             stream.as_slice(),
@@ -272,13 +246,9 @@ mod tests {
 
     #[test]
     fn a_pile_of_two_whitenings(rt: HostRuntime) -> Result<(), Fail> {
-        let inner = Whitened::new(
-            Bench::new(),
-            Block::from_number(0x10),
-            Block::from_number(0x20),
-        );
-        let mut pile = Whitened::new(inner, Block::from_number(1), Block::from_number(2));
-        assert!(rt; pile.load(&block(5)));
+        let inner = Whitened::new(Bench::new(), Block::from(0x10), Block::from(0x20));
+        let mut pile = Whitened::new(inner, Block::from(1), Block::from(2));
+        assert_eq!(rt; pile.load(&block(5)), Ok(()));
         assert_eq!(rt;
             pile.encipher(Block::ZERO).to_bytes(),
             block(5 ^ 0x10 ^ 0x20 ^ 1 ^ 2)
@@ -286,23 +256,10 @@ mod tests {
         let header = block(1);
         let mut tag = [0; 16];
         let mut text = block(3);
-        wrap(
-            &mut pile,
-            &mut Table::new(),
-            &block(2),
-            Some(&header),
-            &mut tag,
-            &mut text,
-        )?;
+        let mut hbs = Hbs::new(pile, Table::new());
+        wrap(&mut hbs, &block(2), Some(&header), &mut tag, &mut text)?;
         assert_ne!(rt; text, block(3));
-        unwrap(
-            &mut pile,
-            &mut Table::new(),
-            &block(2),
-            Some(&header),
-            &tag,
-            &mut text,
-        )?;
+        unwrap(&mut hbs, &block(2), Some(&header), &tag, &mut text)?;
         assert_eq!(rt; text, block(3));
         Ok(())
     }
