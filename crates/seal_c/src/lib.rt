@@ -5,25 +5,28 @@ ghost use Rattle.aes.specs.Scheme.{aes128};
 ghost use Rattle.seal.specs.Answers.{answered};
 ghost use Rattle.seal.specs.Wrapping.{Unwrapped, Wrapped};
 ghost use Rattle.seal_c.specs.Header.{flagged};
-ghost use Rattle.std.specs.Option.{option_map};
+ghost use Rattle.std.specs.Option.{option_copied};
 ghost use Rattle.std.specs.Prelude.{◌≡◌};
 
 use aes::aes128::Aes128;
+use mode::hbs::Hbs;
 use multiplier::{Doubling, Multiplier};
 use seal::fault::SealFault;
 use seal::wrapping::{unwrap, wrap};
 
 /// A header, where the flag says that there is one.
 fn present(has_header: bool, header: &[u8]) -> Option<&[u8]>
-    ensures { option_map (λ x. x.now) result ≡ flagged has_header header.now }
+    ensures { option_copied result ≡ flagged has_header header.now }
 {
-    if has_header { Some(header) } else { None }
+    // a flag beside a value: the C interface has no other way to say that there is none
+    has_header.then_some(header)
 }
 
 /// The number that C is answered.
 fn number(answer: Result<(), SealFault>) -> u32
     ensures { result ≡ answered answer }
 {
+    // a number for a refusal: the C interface asks for it
     match answer {
         Ok(()) => 0,
         Err(fault) => fault.number(),
@@ -41,10 +44,8 @@ pub extern "C" fn yotskheni_wrap(
 ) -> u32
     ensures { Wrapped aes128 key.now (flagged has_header header.now) tag.old text.old result tag.new text.new }
 {
-    let header = present(has_header, header);
-    let mut cipher = Aes128::new();
-    let mut multiplier = Doubling::new();
-    number(wrap(&mut cipher, &mut multiplier, key, header, tag, text))
+    let mut hbs = Hbs::new(Aes128::new(), Doubling::new());
+    number(wrap(&mut hbs, key, present(has_header, header), tag, text))
 }
 
 /// Opens the text in place under the key.
@@ -58,8 +59,6 @@ pub extern "C" fn yotskheni_unwrap(
 ) -> u32
     ensures { Unwrapped aes128 key.now (flagged has_header header.now) tag.now text.old result text.new }
 {
-    let header = present(has_header, header);
-    let mut cipher = Aes128::new();
-    let mut multiplier = Doubling::new();
-    number(unwrap(&mut cipher, &mut multiplier, key, header, tag, text))
+    let mut hbs = Hbs::new(Aes128::new(), Doubling::new());
+    number(unwrap(&mut hbs, key, present(has_header, header), tag, text))
 }
