@@ -27,6 +27,7 @@ impl Block {
 
     pub const ONE: Block = Block { hi: 0, lo: 1 };
 
+    // bytes and halves by name and no From: the names say the order, as those of from_be_bytes and to_be_bytes do
     pub fn from_bytes(bytes: [u8; 16]) -> Block
         ensures { num result ≡ spelled bytes }
     {

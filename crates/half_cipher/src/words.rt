@@ -6,6 +6,7 @@ ghost use Rattle.std.specs.Prelude.{◌≡◌};
 use crate::HalfKey;
 
 /// The two words of a half, the first one most significant.
+// split and join by name and no From: a pair says nothing of an order, and a struct for it would be taken apart in each round
 pub(crate) type Words = (u32, u32);
 
 pub(crate) fn split(half: u64) -> Words
@@ -27,6 +28,7 @@ pub(crate) fn join(v: Words) -> u64
 }
 
 /// The four words of a key.
+// AES parts its state so too; a function for both would stand in a third crate, and be longer than what it saves
 pub(crate) fn key_words(key: &HalfKey) -> [u32; 4]
     ensures { result ≡ words_of_key key.now }
 {

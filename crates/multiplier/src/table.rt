@@ -43,6 +43,7 @@ impl Multiplier for Table {
     fn load(&mut self, block: Block) {
         let mut products = [Block::ZERO; 16];
         products[1] = block;
+        // a loop by index: entry k gives the entries 2k and 2k + 1 of the same table
         for k in 1..8usize {
             let even = products[k].double();
             products[2 * k] = even;
