@@ -5,6 +5,7 @@ use Rattle.std.proofs.lemmas.List.FromFn.{get_or-map-range_with_len}
 use Rattle.fips197.specs.State.{IsState, cell, mix, add_round_key, shift_rows, inv_shift_rows, sub_bytes, inv_sub_bytes}
 use Rattle.fips197.proofs.Steps.{cell_state, is_state, same_state, made, cell_small, sub_state, inv_sub_state, shift_state, inv_shift_state}
 use Rattle.aes_tables.specs.Words.{word}
+use Rattle.aes_tables.proofs.Tables.{by_row}
 use Rattle.aes.specs.Columns.{byte_at, unpack, mix_word}
 use Rattle.aes.proofs.Rows.{byte_small, byte_word, byte_xor, byte_mix}
 
@@ -23,32 +24,32 @@ pub cell-unpack : (xs : List ℕ) (r c : ℕ) → r < 4 → c < 4 → cell (unpa
 unfolding unpack
 cell-unpack xs r c hr hc = cell_state (λ r c. byte_at r (get_or xs c 0)) r c hr hc
 
--- columns, each from the rows of a state
-pub words_are : (s : List ℕ) → IsState s → unpack (fours (λ c. word (cell s 0 c) (cell s 1 c) (cell s 2 c) (cell s 3 c))) ≡ s
+-- what holds of each of four columns
+abbrev pub Each : (ℕ → Type 0) → Type 0
+Each P = P 0 × P 1 × P 2 × P 3
+
+-- four columns, each from the rows of a state
+pub words_are : (xs s : List ℕ) → IsState s → Each (λ c. get_or xs c 0 ≡ word (cell s 0 c) (cell s 1 c) (cell s 2 c) (cell s 3 c)) → unpack xs ≡ s
 unfolding unpack
-words_are s b =
-    is_state (λ r c. byte_at r (get_or (fours f) c 0)) s b.long
+words_are xs s b e =
+    is_state (λ r c. byte_at r (get_or xs c 0)) s b.long
     (λ r c hr hc.
-    ap (byte_at r) (get_or-fours f c hc)
+    ap (byte_at r) (by_row (λ c. get_or xs c 0 ≡ word (cell s 0 c) (cell s 1 c) (cell s 2 c) (cell s 3 c)) e.0 e.1 e.2 e.3 c hc)
     ∙ byte_word (cell s 0 c) (cell s 1 c) (cell s 2 c) (cell s 3 c) (small 0 c (lit< tt) hc) (small 1 c (lit< tt) hc) (small 2 c (lit< tt) hc) (small 3 c (lit< tt) hc) r hr
     ∙ get_or-fours (λ r. cell s r c) r hr)
   where
-    f : ℕ → ℕ
-    f c = word (cell s 0 c) (cell s 1 c) (cell s 2 c) (cell s 3 c)
-
     small : (r c : ℕ) → r < 4 → c < 4 → cell s r c < 256
     small = cell_small s b
 
--- columns, each mixed from the rows of a state
-pub mixes_are : (p q u v : ℕ) (s : List ℕ) → IsState s
-    → unpack (fours (λ c. mix_word p q u v (cell s 0 c) (cell s 1 c) (cell s 2 c) (cell s 3 c))) ≡ mix p q u v s
+-- .. and mixed
+pub mixes_are : (p q u v : ℕ) (xs s : List ℕ) → IsState s → Each (λ c. get_or xs c 0 ≡ mix_word p q u v (cell s 0 c) (cell s 1 c) (cell s 2 c) (cell s 3 c))
+    → unpack xs ≡ mix p q u v s
 unfolding unpack mix
-mixes_are p q u v s b =
-    same_state (λ r c. byte_at r (get_or (fours f) c 0)) _
-    (λ r c hr hc. ap (byte_at r) (get_or-fours f c hc) ∙ byte_mix p q u v (λ r. cell s r c) (λ r h. cell_small s b r c h hc) r hr)
-  where
-    f : ℕ → ℕ
-    f c = mix_word p q u v (cell s 0 c) (cell s 1 c) (cell s 2 c) (cell s 3 c)
+mixes_are p q u v xs s b e =
+    same_state (λ r c. byte_at r (get_or xs c 0)) _
+    (λ r c hr hc.
+    ap (byte_at r) (by_row (λ c. get_or xs c 0 ≡ mix_word p q u v (cell s 0 c) (cell s 1 c) (cell s 2 c) (cell s 3 c)) e.0 e.1 e.2 e.3 c hc)
+    ∙ byte_mix p q u v (λ r. cell s r c) (λ r h. cell_small s b r c h hc) r hr)
 
 -- columns with a round key added
 pub added : (w xs : List ℕ) → unpack (fours (λ c. bit_xor (get_or xs c 0) (get_or w c 0))) ≡ add_round_key (unpack w) (unpack xs)

@@ -19,3 +19,23 @@ state_of s = unpack s.0
 -- the column a b c d mixed by p q u v: the sum of what its bytes add to it
 abbrev pub mix_word : ℕ → ℕ → ℕ → ℕ → ℕ → ℕ → ℕ → ℕ → ℕ
 mix_word p q u v a b c d = quad (spread p v u q a) (spread q p v u b) (spread u q p v c) (spread v u q p d)
+
+-- each of the new columns is made of the four that its rows are from: row r of column c is from column c + r, which goes round
+abbrev pub Shifted : (ℕ → ℕ → ℕ → ℕ → ℕ → Type 0) → List ℕ → List ℕ → Type 0
+Shifted Makes old new = Makes (w 0) (w 1) (w 2) (w 3) (x 0) × Makes (w 1) (w 2) (w 3) (w 0) (x 1) × Makes (w 2) (w 3) (w 0) (w 1) (x 2) × Makes (w 3) (w 0) (w 1) (w 2) (x 3)
+  where
+    w : ℕ → ℕ
+    w = slice_index old
+
+    x : ℕ → ℕ
+    x = slice_index new
+
+-- .. or from column c - r
+abbrev pub ShiftedBack : (ℕ → ℕ → ℕ → ℕ → ℕ → Type 0) → List ℕ → List ℕ → Type 0
+ShiftedBack Makes old new = Makes (w 0) (w 3) (w 2) (w 1) (x 0) × Makes (w 1) (w 0) (w 3) (w 2) (x 1) × Makes (w 2) (w 1) (w 0) (w 3) (x 2) × Makes (w 3) (w 2) (w 1) (w 0) (x 3)
+  where
+    w : ℕ → ℕ
+    w = slice_index old
+
+    x : ℕ → ℕ
+    x = slice_index new

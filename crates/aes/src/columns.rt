@@ -1,5 +1,5 @@
 // The state as four words, each a column, its first row in the highest byte.
-ghost use Rattle.aes.specs.Columns.{byte_at, state_of};
+ghost use Rattle.aes.specs.Columns.{byte_at, Shifted, ShiftedBack, state_of};
 ghost use Rattle.aes_tables.specs.Words.{word};
 ghost use Rattle.fips197.specs.State.{add_round_key};
 ghost use Rattle.std.specs.Prelude.{◌≡◌, ◌<◌};
@@ -47,6 +47,36 @@ impl BitXor for Columns {
         let [a, b, c, d] = self.0;
         let [e, f, g, h] = w.0;
         Columns([a ^ e, b ^ f, c ^ g, d ^ h])
+    }
+}
+
+impl Columns {
+    /// ShiftRows, where `column` makes each new column of the four that its rows are from.
+    pub fn shift_rows<F: Fn(u32, u32, u32, u32) -> u32>(self, column: F) -> Columns
+        requires { F.IsAlwaysCallable column }
+        ensures { Shifted (F.post column) self.0 result.0 }
+    {
+        let [a, b, c, d] = self.0;
+        Columns([
+            column(a, b, c, d),
+            column(b, c, d, a),
+            column(c, d, a, b),
+            column(d, a, b, c),
+        ])
+    }
+
+    /// InvShiftRows, with `column` as there.
+    pub fn inv_shift_rows<F: Fn(u32, u32, u32, u32) -> u32>(self, column: F) -> Columns
+        requires { F.IsAlwaysCallable column }
+        ensures { ShiftedBack (F.post column) self.0 result.0 }
+    {
+        let [a, b, c, d] = self.0;
+        Columns([
+            column(a, d, c, b),
+            column(b, a, d, c),
+            column(c, b, a, d),
+            column(d, c, b, a),
+        ])
     }
 }
 

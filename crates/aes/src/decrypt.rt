@@ -27,13 +27,7 @@ fn inv_mix_columns(s: Columns) -> Columns
 fn turned(s: Columns) -> Columns
     ensures { state_of result ≡ inv_sub_bytes (inv_shift_rows (state_of s)) }
 {
-    let [a, b, c, d] = s.0;
-    Columns([
-        substituted::<InvSubBytes>(a, d, c, b),
-        substituted::<InvSubBytes>(b, a, d, c),
-        substituted::<InvSubBytes>(c, b, a, d),
-        substituted::<InvSubBytes>(d, c, b, a),
-    ])
+    s.inv_shift_rows(substituted::<InvSubBytes>)
 }
 
 pub fn decrypt(keys: &[Columns; 11], s: Columns) -> Columns

@@ -20,26 +20,14 @@ fn mixed(x: u32, y: u32, z: u32, v: u32) -> u32
 fn round(s: Columns) -> Columns
     ensures { state_of result ≡ mix_columns (shift_rows (sub_bytes (state_of s))) }
 {
-    let [a, b, c, d] = s.0;
-    Columns([
-        mixed(a, b, c, d),
-        mixed(b, c, d, a),
-        mixed(c, d, a, b),
-        mixed(d, a, b, c),
-    ])
+    s.shift_rows(mixed)
 }
 
 /// The last round, which does not mix.
 fn last_round(s: Columns) -> Columns
     ensures { state_of result ≡ shift_rows (sub_bytes (state_of s)) }
 {
-    let [a, b, c, d] = s.0;
-    Columns([
-        substituted::<SubBytes>(a, b, c, d),
-        substituted::<SubBytes>(b, c, d, a),
-        substituted::<SubBytes>(c, d, a, b),
-        substituted::<SubBytes>(d, a, b, c),
-    ])
+    s.shift_rows(substituted::<SubBytes>)
 }
 
 pub fn encrypt(keys: &[Columns; 11], s: Columns) -> Columns

@@ -1,4 +1,4 @@
-use Rattle.std.proofs.Common.{[], ◌∷◌, ap, ◌∙◌}
+use Rattle.std.proofs.Common.{[], ◌∷◌}
 use Rattle.fips197.specs.State.{inv_mix_columns}
 use Rattle.aes.specs.Columns.{unpack}
 use Rattle.aes.proofs.Unpacked.{mixes_are, unpack_state}
@@ -8,4 +8,5 @@ pub returns : goal.returns
 unfolding unpack inv_mix_columns
 returns c =
     let s = c.args.s.0 in
-    ap unpack (λ i. c.inv_mixed.ensures i ∷ c.inv_mixed-2.ensures i ∷ c.inv_mixed-3.ensures i ∷ c.inv_mixed-4.ensures i ∷ []) ∙ mixes_are 14 11 13 9 (unpack s) (unpack_state s)
+    mixes_are 14 11 13 9 (c.inv_mixed.result ∷ c.inv_mixed-2.result ∷ c.inv_mixed-3.result ∷ c.inv_mixed-4.result ∷ []) (unpack s) (unpack_state s)
+    (c.inv_mixed.ensures, c.inv_mixed-2.ensures, c.inv_mixed-3.ensures, c.inv_mixed-4.ensures)
