@@ -6,18 +6,19 @@ pub mod wrapping;
 
 #[cfg(test)]
 mod tests {
-    use crate::wrapping::{answer_unwrap, answer_wrap};
+    use crate::wrapping::answer;
     use cipher::bench::Bench;
-    use multiplier::{Doubling, Multiplier};
+    use lines::request::{UnwrapRequest, WrapRequest};
+    use mode::hbs::Hbs;
+    use multiplier::Doubling;
     use std::test::Fail;
 
     #[test]
     fn a_message_is_wrapped(rt: HostRuntime) -> Result<(), Fail> {
         let line =
             b"00000000000000000000000000000002 00000000000000000000000000000001 00000000000000000000000000000003";
-        let mut cipher = Bench::new();
-        let mut multiplier = Doubling::new();
-        let told = answer_wrap(rt.alloc(), &mut cipher, &mut multiplier, 1, line)?;
+        let mut hbs = Hbs::new(Bench::new(), Doubling::new());
+        let told = answer::<WrapRequest, _, _>(rt.alloc(), &mut hbs, 1, line)?;
         assert_eq!(rt;
             told.as_str(),
             "accepted 0000000000000000000000000000001e 0000000000000000000000000000001c"
@@ -29,9 +30,8 @@ mod tests {
     fn another_tag_is_refused(rt: HostRuntime) -> Result<(), Fail> {
         let line =
             b"00000000000000000000000000000002 00000000000000000000000000000001 0000000000000000000000000000001f 0000000000000000000000000000001c";
-        let mut cipher = Bench::new();
-        let mut multiplier = Doubling::new();
-        let told = answer_unwrap(rt.alloc(), &mut cipher, &mut multiplier, 1, line)?;
+        let mut hbs = Hbs::new(Bench::new(), Doubling::new());
+        let told = answer::<UnwrapRequest, _, _>(rt.alloc(), &mut hbs, 1, line)?;
         assert_eq!(rt;
             told.as_str(),
             "refused 14 seal: tag and text do not belong together under this key and header"
