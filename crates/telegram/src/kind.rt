@@ -1,6 +1,8 @@
 // What a telegram brings.
 ghost use Rattle.std.specs.Prelude.{◌≡◌, ◌≤◌};
 
+use std::fmt;
+
 /// The byte of a kind that has no name here.
 #[derive(Clone, Copy, PartialEq, Eq, Debug)]
 pub struct OtherKind {
@@ -41,6 +43,22 @@ impl From<Kind> for u8 {
             Kind::Measurement => 0,
             Kind::Key => 1,
             Kind::Other(other) => other.byte,
+        }
+    }
+}
+
+/// A kind by its name, or by its number.
+impl fmt::Display for Kind {
+    ghost use Rattle.std.specs.Prelude.{Some};
+    ghost use Rattle.telegram.specs.Kind.{kind_name};
+
+    ghost output = { λ kind. Some (kind_name kind) };
+
+    fn fmt<W: fmt::Write>(&self, f: &mut fmt::Formatter<W>) -> fmt::Result {
+        match self {
+            Kind::Measurement => f.write_str("measurement"),
+            Kind::Key => f.write_str("key"),
+            Kind::Other(other) => write!(f, "{}", other.byte),
         }
     }
 }

@@ -1,38 +1,27 @@
 //! What is told of a telegram, one part to a line.
 #![tactic(auto)]
 
-ghost use Rattle.std.specs.Prelude.{◌≡◌, IfOk, string_bytes};
+ghost use Rattle.std.specs.Prelude.{◌≡◌, IfOk, MatchResult, string_bytes};
 ghost use Rattle.telegram.specs.Calls.{parts_of};
 ghost use Rattle.telegram.specs.Header.{heading};
-ghost use Rattle.telegram_words.specs.Words.{fields_answer, text_of_head, text_of_kind, text_of_part, text_of_parts, refused_fields};
+ghost use Rattle.telegram_words.specs.Words.{fields_answer, text_of_head, text_of_part, text_of_parts, refused_fields};
 
 use lines::hex;
 use std::alloc::{AllocError, Global};
 use telegram::fault::TelegramFault;
-use telegram::header::{Header, Kind};
+use telegram::header::Header;
 use telegram::parts::Fields;
 use telegram::reading::fields;
 use telegram::sizes::{HEADER_START, MIN_HEADER};
-
-/// A kind by its name, or by its number.
-fn kind_text(heap: Global, kind: Kind) -> Result<String, AllocError>
-    ensures { IfOk result (λ s. string_bytes s ≡ text_of_kind kind.0) }
-{
-    match kind {
-        Kind::MEASUREMENT => String::from_str(heap, "measurement"),
-        Kind::KEY => String::from_str(heap, "key"),
-        Kind(number) => format!(in heap; "{number}"),
-    }
-}
 
 /// The gauge, the serial and the kind.
 fn head_text(heap: Global, header: &Header<'_>) -> Result<String, AllocError>
     ensures { IfOk result (λ s. string_bytes s ≡ text_of_head (heading header.now)) }
 {
-    let gauge = header.gauge;
-    let serial = header.serial;
-    let kind = kind_text(heap, header.kind)?;
-    format!(in heap; "gauge: {gauge}\nserial: {serial}\nkind: {kind}")
+    format!(in heap;
+        "gauge: {}\nserial: {}\nkind: {}",
+        header.gauge, header.serial, header.kind
+    )
 }
 
 /// Bytes of a telegram, and where they start.
@@ -48,8 +37,7 @@ fn part_text(heap: Global, name: &str, start: usize, bytes: &[u8]) -> Result<Str
 fn refused(heap: Global, fault: TelegramFault) -> Result<String, AllocError>
     ensures { IfOk result (λ s. string_bytes s ≡ refused_fields fault) }
 {
-    let number = fault.number();
-    format!(in heap; "refused {number} telegram: {fault}")
+    format!(in heap; "refused {} telegram: {fault}", fault.number())
 }
 
 /// The parts of a telegram that was read.
@@ -68,16 +56,21 @@ fn parts_text(heap: Global, parts: Fields<'_>, header: &Header<'_>) -> Result<St
     format!(in heap; "{head}\n{note}\n{tag}\n{ciphertext}")
 }
 
+/// The parts and the header of a telegram.
+fn read(telegram: &[u8]) -> Result<(Fields<'_>, Header<'_>), TelegramFault>
+    ensures { MatchResult result (λ r. fields_answer telegram.now ≡ text_of_parts (parts_of r.0) r.0.places (heading r.1)) (λ fault. fields_answer telegram.now ≡ refused_fields fault) }
+{
+    let parts = fields(telegram)?;
+    let header = Header::read(parts.header)?;
+    Ok((parts, header))
+}
+
 /// The parts of a telegram in words, one to a line, or why it is none. An error is want of memory.
 pub fn answer_fields(heap: Global, telegram: &[u8]) -> Result<String, AllocError>
     ensures { IfOk result (λ s. string_bytes s ≡ fields_answer telegram.now) }
 {
-    let parts = match fields(telegram) {
-        Ok(parts) => parts,
-        Err(fault) => return refused(heap, fault),
-    };
-    match Header::read(parts.header) {
-        Ok(header) => parts_text(heap, parts, &header),
+    match read(telegram) {
+        Ok((parts, header)) => parts_text(heap, parts, &header),
         Err(fault) => refused(heap, fault),
     }
 }
