@@ -4,7 +4,7 @@ ghost use Rattle.std.specs.Prelude.{◌≡◌};
 
 use crate::sizes::{HEADER_START, Sizes, TAG_BYTES};
 
-/// Bytes of a buffer, from `start` up to and without `end`.
+/// Bytes of a buffer, from `start` up to and without `end`. Unlike a `Range`, it may be copied.
 #[derive(Clone, Copy, PartialEq, Eq, Debug)]
 pub struct Place {
     pub start: usize,

@@ -67,6 +67,8 @@ pub(crate) fn header_fits(len: usize) -> bool
     (MIN_HEADER..=MAX_HEADER).contains(&len)
 }
 
+// These two are no `From`: they take a `usize` to its two bytes and back, and not every `usize` has them.
+
 /// The number that two bytes spell, the high one first.
 pub(crate) fn length_of(hi: u8, lo: u8) -> usize
     ensures { result ≡ 256 * hi + lo }

@@ -29,6 +29,7 @@ mod tests {
 
     #[test]
     fn a_front_is_refused(rt: HostRuntime) {
+        // A loop over lengths: a front is what a length leaves of the telegram.
         for n in 0..GOOD.len() {
             assert_eq!(rt; fields(&GOOD[..n]).err(), Some(TelegramFault::Lengths));
         }
@@ -57,7 +58,7 @@ mod tests {
         assert_eq!(rt; fields(&[2]).err(), Some(TelegramFault::Version));
     }
 
-    // `n` bytes, each unlike its neighbours.
+    // `n` bytes, each unlike its neighbours. One line, which `cases` has too: its tests and these share no crate.
     fn ramp(heap: Global, n: u16) -> Result<Vec<u8>, AllocError> {
         (0..n).map(|i| (i % 251) as u8).collect(heap)
     }
