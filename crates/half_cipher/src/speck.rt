@@ -37,9 +37,8 @@ fn round_keys(key: &HalfKey) -> [u32; ROUNDS]
 {
     let [mut l2, mut l1, mut l0, mut k] = key_words(key);
     let mut keys = [0; ROUNDS];
-    // a loop by number: the number is what the round takes in place of its key
-    for i in 0..ROUNDS {
-        keys[i] = k;
+    for (i, slot) in keys.iter_mut().enumerate() {
+        *slot = k;
         let (l, next) = round(i as u32, (l0, k));
         l0 = l1;
         l1 = l2;

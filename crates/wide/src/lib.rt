@@ -75,6 +75,7 @@ impl<H: HalfCipher> Cipher for Wide<H> {
         self.key.len()
     }
 
+    // as the bench cipher's but for the size: a function for both would be a call in place of one `?`
     fn load(&mut self, key: &[u8]) -> Result<(), WrongKeyLen> {
         self.key = <[u8; 192]>::try_from(key)?;
         Ok(())

@@ -13,7 +13,7 @@ loop-i-init c = (refl, ap first c.key_words.ensures, λ j h. absurd (omega arith
 pub loop-i-preserved : goal.loop-i-preserved
 loop-i-preserved c =
     let i = c.loop-i.i in
-    let keys = c.loop-i.keys in
+    let keys = c.loop-i.slot-items in
     let start = first (words_of_key c.args.key.now) in
     let turned : ℕ × ℕ → Schedule = λ lk. record { l0 = c.loop-i.l1; l1 = c.loop-i.l2; l2 = lk.0; k = lk.1 } in (
       length-set keys i c.loop-i.k ∙ c.loop-i.invariant.0,
@@ -26,4 +26,4 @@ loop-i-preserved c =
 pub returns : goal.returns
 unfolding keys_of
 returns c =
-    fill_by_all (round_key (words_of_key c.args.key.now)) c.loop-i.keys 27 0 c.loop-i.invariant.0 (search rules)
+    fill_by_all (round_key (words_of_key c.args.key.now)) c.loop-i.slot-items 27 0 c.loop-i.invariant.0 (search rules)
