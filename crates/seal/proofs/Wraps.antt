@@ -1,5 +1,5 @@
 -- What wrap and unwrap promise, from the laws of sealing and opening.
-use Rattle.std.proofs.Common.{◌≡◌, ℕ, ◌^◌, ◌<◌, Bool, true, false, cond, ◌&&◌, eqb, leb, List, length, Some, None, Option, sym, refl, ap, ◌∙◌, subst, ap₂, arith, eqb-true}
+use Rattle.std.proofs.Common.{◌≡◌, ℕ, ◌^◌, ◌<◌, Bool, true, false, cond, ◌&&◌, eqb, leb, List, length, Some, None, Option, sym, refl, ap, ◌∙◌, ap₂, arith, eqb-true}
 use Rattle.block.specs.Bytes.{AllBytes, spelled, bytes}
 use Rattle.block.proofs.Spelling.{spelled-bytes, spelled_block}
 use Rattle.cipher.specs.declared.Cipher as Cipher
@@ -13,7 +13,7 @@ use Rattle.mode.proofs.Inverts.{inverses}
 use Rattle.multiplier.specs.declared.Multiplier as Multiplier
 use Rattle.seal.specs.declared.fault.SealFault.TheVariants.{Size, Mismatch}
 use Rattle.seal.specs.Answers.{refusal}
-use Rattle.seal.specs.Sizes.{header_sized, buffers_sized, sized}
+use Rattle.seal.specs.Sizes.{header_sized, message_sized, buffers_sized, sized}
 use Rattle.seal.specs.Wrapping.{given, accepted, left, verdict, Wrapped, Unwrapped}
 
 both_true : (a b : Bool) → (a && b) ≡ true → (a ≡ true) × (b ≡ true)
@@ -35,8 +35,10 @@ pub opens_held : {C M : Type 0} {cs : Cipher.Ghosts C} {ms : Multiplier.Ghosts M
 opens_held h t x load tag opens = sym (opens ∙ ap₂ (λ k a. opened_with k h (pair a x)) (held load) tag)
 
 module _ (s : Scheme) (k : List ℕ) (h : Option (List ℕ)) (t x : List ℕ) where
-  pub past : buffers_sized h t x ≡ true → eqb (length k) s.key_len ≡ true → sized s k h t x ≡ true
-  past buffers key = ap₂ ◌&&◌ buffers key
+  pub past : length t ≡ 16 → message_sized h x ≡ true → eqb (length k) s.key_len ≡ true → sized s k h t x ≡ true
+  past tag message key =
+      let parts = both_true (header_sized h) (leb (length x) 4096) message in
+      ap₂ ◌&&◌ (ap₂ ◌&&◌ parts.0 (ap₂ ◌&&◌ (ap (λ (n : ℕ). eqb n 16) tag) parts.1)) key
 
   key_long : sized s k h t x ≡ true → length k ≡ s.key_len
   key_long fits = eqb-true (length k) s.key_len (both_true (buffers_sized h t x) (eqb (length k) s.key_len) fits).1

@@ -6,7 +6,11 @@ abbrev pub header_sized : Option (List ℕ) → Bool
 header_sized None = true
 header_sized (Some h) = nat_le (length h) 1024
 
--- a header, a tag buffer and a text of these sizes
+-- a header and a text of these sizes
+abbrev pub message_sized : Option (List ℕ) → List ℕ → Bool
+message_sized h x = header_sized h && nat_le (length x) 4096
+
+-- .. and a tag buffer
 abbrev pub buffers_sized : Option (List ℕ) → List ℕ → List ℕ → Bool
 buffers_sized h t x = header_sized h && (length t == 16 && nat_le (length x) 4096)
 

@@ -1,5 +1,5 @@
 // The sizes that are taken.
-ghost use Rattle.seal.specs.Sizes.{buffers_sized};
+ghost use Rattle.seal.specs.Sizes.{message_sized};
 ghost use Rattle.std.specs.Option.{option_copied};
 ghost use Rattle.std.specs.Prelude.{◌≡◌};
 
@@ -9,11 +9,9 @@ pub const MAX_HEADER: usize = 1024;
 /// The longest text, in bytes.
 pub const MAX_TEXT: usize = 4096;
 
-/// Whether a header, a tag buffer and a text are of sizes that are taken.
-pub(crate) fn buffers_fit(header: Option<&[u8]>, tag: &[u8], text: &[u8]) -> bool
-    ensures { result ≡ buffers_sized (option_copied header.entry) tag.now text.now }
+/// Whether a header and a text are of sizes that are taken.
+pub(crate) fn sizes_fit(header: Option<&[u8]>, text: &[u8]) -> bool
+    ensures { result ≡ message_sized (option_copied header.entry) text.now }
 {
-    header.is_none_or(|header| header.len() <= MAX_HEADER)
-        && tag.len() == 16
-        && text.len() <= MAX_TEXT
+    header.is_none_or(|header| header.len() <= MAX_HEADER) && text.len() <= MAX_TEXT
 }

@@ -2,14 +2,14 @@
 ghost use Rattle.block.specs.Num.{num};
 ghost use Rattle.mode.specs.Keys.{keys};
 ghost use Rattle.mode.specs.Sealing.{opened_with, pair, streamed_with};
-ghost use Rattle.seal.specs.Sizes.{buffers_sized};
+ghost use Rattle.seal.specs.Sizes.{message_sized};
 ghost use Rattle.seal.specs.Watching.{SameBuffer};
 ghost use Rattle.seal.specs.Wrapping.{cleared, part_mapped, part_opened};
 ghost use Rattle.std.specs.Option.{option_copied};
 ghost use Rattle.std.specs.List.{between};
 ghost use Rattle.std.specs.Prelude.{◌≡◌, true, length, if◌then◌else◌, Some, None};
 
-use crate::sizes::buffers_fit;
+use crate::sizes::sizes_fit;
 use block::Block;
 use cipher::Cipher;
 use mode::hbs::Hbs;
@@ -37,11 +37,11 @@ impl Drop for Watch<'_> {
 }
 
 impl Watch<'_> {
-    /// Whether the bytes, a header and a tag buffer are of sizes that are taken.
-    pub(crate) fn fits(&self, header: Option<&[u8]>, tag: &[u8]) -> bool
-        ensures { result ≡ buffers_sized (option_copied header.entry) tag.now self.now.bytes.now }
+    /// Whether the bytes and a header are of sizes that are taken.
+    pub(crate) fn fits(&self, header: Option<&[u8]>) -> bool
+        ensures { result ≡ message_sized (option_copied header.entry) self.now.bytes.now }
     {
-        buffers_fit(header, tag, self.bytes)
+        sizes_fit(header, self.bytes)
     }
 
     /// Opens the bytes where they stand, and releases them if they are authentic.

@@ -6,7 +6,7 @@ ghost use Rattle.seal.specs.Wrapping.{Unwrapped, Wrapped};
 ghost use Rattle.std.specs.Option.{option_copied};
 
 use crate::fault::SealFault;
-use crate::sizes::buffers_fit;
+use crate::sizes::sizes_fit;
 use crate::watch::Watch;
 use block::Block;
 use cipher::Cipher;
@@ -27,12 +27,12 @@ pub fn wrap<C: Cipher, M: Multiplier>(
     ensures seals { Wrapped (C.scheme hbs.old.cipher) key.now (option_copied header.entry) tag.old text.old (answered result) tag.new text.new }
     ensures keys { Keyed C.Cipher M.Multiplier (sized (C.scheme hbs.old.cipher) key.now (option_copied header.entry) tag.old text.old) key.now hbs.old hbs.new }
 {
-    if !buffers_fit(header, tag, text) {
+    let tag = tag.as_mut_array::<16>().ok_or(SealFault::Size)?;
+    if !sizes_fit(header, text) {
         return Err(SealFault::Size);
     }
     hbs.load(key)?;
-    let sealed = hbs.seal(header, text).to_bytes();
-    tag.copy_from_slice(&sealed);
+    *tag = hbs.seal(header, text).to_bytes();
     Ok(())
 }
 
@@ -54,13 +54,12 @@ pub fn unwrap<C: Cipher, M: Multiplier>(
         bytes: text,
         released: false,
     };
-    if !watch.fits(header, tag) {
+    let tag = tag.as_array::<16>().ok_or(SealFault::Size)?;
+    if !watch.fits(header) {
         return Err(SealFault::Size);
     }
     hbs.load(key)?;
-    let mut bytes = [0; 16];
-    bytes.copy_from_slice(tag);
-    if !watch.open(hbs, header, Block::from_bytes(bytes)) {
+    if !watch.open(hbs, header, Block::from_bytes(*tag)) {
         return Err(SealFault::Mismatch);
     }
     Ok(())

@@ -13,8 +13,8 @@ returns-then-not-open-clause-opens g c =
     let t = c.args.tag.now in
     let x = c.args.text.now in
     let load = c.in_ok-load.ensures in
-    let fits : sized s k h t x ≡ true = past s k h t x (sym c.if-not-fits.ensures) (sym load.fits) in
-    let opens = opens_held h t x load.keys (c.from_bytes.ensures ∙ ap spelled c.copy_from_slice.ensures.after) c.if-not-open.ensures.opens in
+    let fits : sized s k h t x ≡ true = past s k h t x (search rules) (sym c.if-not-fits.ensures) (sym load.fits) in
+    let opens = opens_held h t x load.keys (c.from_bytes.ensures ∙ ap spelled (search rules)) c.if-not-open.ensures.opens in
     let leaves = left-past s k h t x fits opens in
     refuses s k h t x (g.met.C.Cipher.lawful c.args.hbs.now.cipher) (λ i _. search rules) (λ i _. search rules) fits opens (search rules)
 
@@ -26,7 +26,7 @@ returns-clause-opens g c =
     let t = c.args.tag.now in
     let x = c.args.text.now in
     let load = c.in_ok-load.ensures in
-    let fits : sized s k h t x ≡ true = past s k h t x (sym c.if-not-fits.ensures) (sym load.fits) in
-    let opens = opens_held h t x load.keys (c.from_bytes.ensures ∙ ap spelled c.copy_from_slice.ensures.after) c.if-not-open.ensures.opens in
+    let fits : sized s k h t x ≡ true = past s k h t x (search rules) (sym c.if-not-fits.ensures) (sym load.fits) in
+    let opens = opens_held h t x load.keys (c.from_bytes.ensures ∙ ap spelled (search rules)) c.if-not-open.ensures.opens in
     let leaves = left-past s k h t x fits opens in
     unwraps s k h t x (g.met.C.Cipher.lawful c.args.hbs.now.cipher) (λ i _. search rules) (λ i _. search rules) fits opens (search rules)

@@ -14,7 +14,7 @@ returns-clause-seals g c =
     let t = c.args.tag.now in
     let x = c.args.text.now in
     let load = c.in_ok-load.ensures in
-    let fits : sized s k h t x ≡ true = past s k h t x (sym c.if-not-buffers_fit.ensures) (sym load.fits) in
+    let fits : sized s k h t x ≡ true = past s k h t x (search rules) (sym c.if-not-sizes_fit.ensures) (sym load.fits) in
     let seals = seals_held h x load.keys c.seal.ensures in
     wraps s k h t x (g.met.C.Cipher.lawful c.args.hbs.now.cipher) (λ i _. search rules) fits
-    (c.copy_from_slice.ensures.after ∙ c.to_bytes-sealed.ensures ∙ ap (λ (z : Sealed). bytes 16 z.tag) seals) (ap (λ (z : Sealed). z.text) seals)
+    (c.to_bytes.ensures ∙ ap (λ (z : Sealed). bytes 16 z.tag) seals) (ap (λ (z : Sealed). z.text) seals)
