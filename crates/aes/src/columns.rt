@@ -2,11 +2,12 @@
 ghost use Rattle.aes.specs.Columns.{byte_at, Shifted, ShiftedBack, state_of};
 ghost use Rattle.aes_tables.specs.Words.{word};
 ghost use Rattle.fips197.specs.State.{add_round_key};
-ghost use Rattle.std.specs.Prelude.{◌≡◌, ◌<◌};
+ghost use Rattle.std.specs.Prelude.{◌≡◌, ◌%◌};
 
 use fips197::Substitution;
 use std::ops::BitXor;
 
+/// The state, and a round key.
 #[derive(Clone, Copy)]
 pub struct Columns(pub [u32; 4]);
 
@@ -66,6 +67,7 @@ impl Columns {
     }
 
     /// InvShiftRows, with `column` as there.
+    // apart from shift_rows: one function for both would take the turn as a number and index the columns modulo 4
     pub fn inv_shift_rows<F: Fn(u32, u32, u32, u32) -> u32>(self, column: F) -> Columns
         requires { F.IsAlwaysCallable column }
         ensures { ShiftedBack (F.post column) self.0 result.0 }
@@ -80,12 +82,11 @@ impl Columns {
     }
 }
 
-/// The byte of a column in row `ROW`.
+/// The byte of a column in row `ROW`, which goes round after the last.
 pub fn row<const ROW: usize>(x: u32) -> u8
-    requires { ROW < 4 }
-    ensures { result ≡ byte_at ROW x }
+    ensures { result ≡ byte_at (ROW % 4) x }
 {
-    x.to_be_bytes()[ROW]
+    x.to_be_bytes()[ROW % 4]
 }
 
 /// A column whose rows are from four columns, each byte substituted.
