@@ -29,13 +29,3 @@ Shifted Makes old new = Makes (w 0) (w 1) (w 2) (w 3) (x 0) × Makes (w 1) (w 2)
 
     x : ℕ → ℕ
     x = slice_index new
-
--- .. or from column c - r
-abbrev pub ShiftedBack : (ℕ → ℕ → ℕ → ℕ → ℕ → Type 0) → List ℕ → List ℕ → Type 0
-ShiftedBack Makes old new = Makes (w 0) (w 3) (w 2) (w 1) (x 0) × Makes (w 1) (w 0) (w 3) (w 2) (x 1) × Makes (w 2) (w 1) (w 0) (w 3) (x 2) × Makes (w 3) (w 2) (w 1) (w 0) (x 3)
-  where
-    w : ℕ → ℕ
-    w = slice_index old
-
-    x : ℕ → ℕ
-    x = slice_index new

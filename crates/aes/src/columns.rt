@@ -1,5 +1,5 @@
 // The state as four words, each a column, its first row in the highest byte.
-ghost use Rattle.aes.specs.Columns.{byte_at, Shifted, ShiftedBack, state_of};
+ghost use Rattle.aes.specs.Columns.{byte_at, Shifted, state_of};
 ghost use Rattle.aes_tables.specs.Words.{word};
 ghost use Rattle.fips197.specs.State.{add_round_key};
 ghost use Rattle.std.specs.Prelude.{◌≡◌, ◌%◌};
@@ -63,21 +63,6 @@ impl Columns {
             column(b, c, d, a),
             column(c, d, a, b),
             column(d, a, b, c),
-        ])
-    }
-
-    /// InvShiftRows, with `column` as there.
-    // apart from shift_rows: one function for both would take the turn as a number and index the columns modulo 4
-    pub fn inv_shift_rows<F: Fn(u32, u32, u32, u32) -> u32>(self, column: F) -> Columns
-        requires { F.IsAlwaysCallable column }
-        ensures { ShiftedBack (F.post column) self.0 result.0 }
-    {
-        let [a, b, c, d] = self.0;
-        Columns([
-            column(a, d, c, b),
-            column(b, a, d, c),
-            column(c, b, a, d),
-            column(d, c, b, a),
         ])
     }
 }

@@ -23,11 +23,11 @@ fn inv_mix_columns(s: Columns) -> Columns
     Columns([inv_mixed(a), inv_mixed(b), inv_mixed(c), inv_mixed(d)])
 }
 
-/// InvShiftRows, and then InvSubBytes.
+/// InvShiftRows, which is ShiftRows with the columns the other way round, and then InvSubBytes.
 fn turned(s: Columns) -> Columns
     ensures { state_of result ≡ inv_sub_bytes (inv_shift_rows (state_of s)) }
 {
-    s.inv_shift_rows(substituted::<InvSubBytes>)
+    s.shift_rows(|a, b, c, d| substituted::<InvSubBytes>(a, d, c, b))
 }
 
 pub fn decrypt(keys: &[Columns; 11], s: Columns) -> Columns
