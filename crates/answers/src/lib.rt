@@ -10,7 +10,7 @@ mod tests {
     use cipher::bench::Bench;
     use lines::request::{UnwrapRequest, WrapRequest};
     use mode::hbs::Hbs;
-    use multiplier::Doubling;
+    use multiplier::{Doubling, Multiplier};
     use std::test::Fail;
 
     #[test]

@@ -4,7 +4,7 @@ ghost use Rattle.block.specs.Num.{num};
 ghost use Rattle.outside_vectors.specs.Agrees.{agrees, agrees_half};
 
 use crate::piles::{kind, read_block, with_pile};
-use anyhow::{Context, anyhow};
+use anyhow::Context;
 use block::Block;
 use cipher::Cipher;
 use half_cipher::speck::Speck64;
@@ -29,7 +29,7 @@ impl Task for BlockVector {
     ghost comes = { λ v s r. r ≡ agrees s v.key.items (num v.block) (num v.enciphered) };
 
     fn with<C: Cipher + Drop>(self, mut cipher: C) -> bool {
-        cipher.load(self.key.as_slice())
+        cipher.load(&self.key).is_ok()
             && cipher.encipher(self.block) == self.enciphered
             && cipher.decipher(self.enciphered) == self.block
     }
@@ -42,11 +42,8 @@ fn half_agrees<H: HalfCipher>(cipher: &H, key: &HalfKey, half: u64, enciphered: 
 }
 
 fn read_half(heap: Global, text: &str) -> anyhow::Result<u64> {
-    let bytes = hex::decode(heap, Field::Message, text.as_bytes())?;
-    match <[u8; 8]>::try_from(bytes.as_slice()) {
-        Ok(bytes) => Ok(u64::from_be_bytes(bytes)),
-        Err(_) => Err(anyhow!("a half has 8 bytes")),
-    }
+    let bytes = hex::decode_array(heap, Field::Message, text.as_bytes())?;
+    Ok(u64::from_be_bytes(bytes.context("a half has 8 bytes")?))
 }
 
 fn work_half<H: HalfCipher>(
@@ -64,8 +61,8 @@ fn work_half<H: HalfCipher>(
     }
 }
 
-/// What kind of vector a line has, and whether it comes out as expected.
-pub(crate) fn work(heap: Global, line: &str) -> anyhow::Result<(String, bool)> {
+/// What kind of vector a line has, or `None` where it doesn't come out as expected.
+pub(crate) fn work(heap: Global, line: &str) -> anyhow::Result<Option<String>> {
     let mut fields = line.split(' ');
     let name = fields.next().context("no cipher")?;
     let key = hex::decode(
@@ -76,8 +73,8 @@ pub(crate) fn work(heap: Global, line: &str) -> anyhow::Result<(String, bool)> {
     let block = fields.next().context("no block")?;
     let enciphered = fields.next().context("no enciphered block")?;
     let agrees = match name {
-        "xtea" => work_half(heap, &Xtea, key.as_slice(), block, enciphered)?,
-        "speck64128" => work_half(heap, &Speck64, key.as_slice(), block, enciphered)?,
+        "xtea" => work_half(heap, &Xtea, &key, block, enciphered)?,
+        "speck64128" => work_half(heap, &Speck64, &key, block, enciphered)?,
         _ => {
             let vector = BlockVector {
                 key,
@@ -87,5 +84,6 @@ pub(crate) fn work(heap: Global, line: &str) -> anyhow::Result<(String, bool)> {
             with_pile(heap, name, vector)?
         }
     };
-    Ok((kind(heap, name)?, agrees))
+    let kind = kind(heap, name)?;
+    Ok(agrees.then_some(kind))
 }

@@ -7,25 +7,30 @@ mod messages;
 mod piles;
 mod tally;
 
+use std::alloc::Global;
 use std::fs;
 use tally::Tally;
 
+/// Works each line of a file, and notes what comes of it.
+fn work_file<F: Fn(Global, &str) -> anyhow::Result<Option<String>>>(
+    rt: &HostRuntime,
+    tally: &mut Tally,
+    name: &str,
+    work: F,
+) -> anyhow::Result<()>
+    requires { F.IsAlwaysCallable work }
+{
+    let text = fs::read_to_string(rt, name)?;
+    for line in text.lines().filter(|line| !line.starts_with('#')) {
+        tally.note(rt, line, work(rt.alloc(), line)?)?;
+    }
+    Ok(())
+}
+
 fn run(rt: &HostRuntime) -> anyhow::Result<()> {
     let mut tally = Tally::new(rt.alloc());
-    let text = fs::read_to_string(rt, "ciphers.txt")?;
-    for line in text.as_str().lines() {
-        if !line.starts_with('#') {
-            let (kind, agrees) = blocks::work(rt.alloc(), line)?;
-            tally.note(rt, kind, line, agrees)?;
-        }
-    }
-    let text = fs::read_to_string(rt, "hbs.txt")?;
-    for line in text.as_str().lines() {
-        if !line.starts_with('#') {
-            let (kind, agrees) = messages::work(rt.alloc(), line)?;
-            tally.note(rt, kind, line, agrees)?;
-        }
-    }
+    work_file(rt, &mut tally, "ciphers.txt", blocks::work)?;
+    work_file(rt, &mut tally, "hbs.txt", messages::work)?;
     tally.report(rt)
 }
 

@@ -1,15 +1,16 @@
 // Vectors of the mode, `CIPHER KEY HEADER MESSAGE TAG CIPHERTEXT`: each is sealed, opened, and refused with another tag,
 // over each multiplier.
-ghost use Rattle.answers.specs.Replies.{unwrap_answer, wrap_answer};
 ghost use Rattle.std.specs.Prelude.{◌≡◌, true, IfOk, string_bytes};
 ghost use Rattle.outside_vectors.specs.Messages.{Holds};
 
 use crate::piles::{kind, with_pile};
-use answers::wrapping::{answer_unwrap, answer_wrap};
-use anyhow::{Context, anyhow};
+use answers::wrapping::{Answered, answer};
+use anyhow::Context;
 use cipher::Cipher;
 use lines::fault::Field;
 use lines::hex;
+use lines::request::{UnwrapRequest, WrapRequest};
+use mode::hbs::Hbs;
 use multiplier::{Doubling, Multiplier, Table};
 use named::task::Task;
 use seal::fault::SealFault;
@@ -40,46 +41,33 @@ pub(crate) struct MessageVector {
     damaged: Exchange,
 }
 
-/// Whether the line for `wrap` is answered so.
-fn seals<C: Cipher, M: Multiplier>(
-    heap: Global,
-    cipher: &mut C,
-    multiplier: &mut M,
-    exchange: &Exchange,
-) -> Result<bool, AllocError>
-    ensures answers { IfOk result (λ same. same ≡ true → wrap_answer (C.scheme cipher.old) 1 (string_bytes exchange.now.line) ≡ string_bytes exchange.now.answer) }
-    ensures scheme { C.scheme cipher.new ≡ C.scheme cipher.old }
-{
-    let answer = answer_wrap(heap, cipher, multiplier, 1, exchange.line.as_bytes())?;
-    Ok(answer.as_str() == exchange.answer.as_str())
-}
-
-/// Whether the line for `unwrap` is answered so.
-fn opens<C: Cipher, M: Multiplier>(
-    heap: Global,
-    cipher: &mut C,
-    multiplier: &mut M,
-    exchange: &Exchange,
-) -> Result<bool, AllocError>
-    ensures answers { IfOk result (λ same. same ≡ true → unwrap_answer (C.scheme cipher.old) 1 (string_bytes exchange.now.line) ≡ string_bytes exchange.now.answer) }
-    ensures scheme { C.scheme cipher.new ≡ C.scheme cipher.old }
-{
-    let answer = answer_unwrap(heap, cipher, multiplier, 1, exchange.line.as_bytes())?;
-    Ok(answer.as_str() == exchange.answer.as_str())
+impl Exchange {
+    /// Whether the line is answered so, as a request of one form.
+    fn holds<R: Answered, C: Cipher, M: Multiplier>(
+        &self,
+        heap: Global,
+        hbs: &mut Hbs<C, M>,
+    ) -> Result<bool, AllocError>
+        ensures answers { IfOk result (λ same. same ≡ true → R.answers (C.scheme hbs.old.cipher) 1 (string_bytes self.now.line) ≡ string_bytes self.now.answer) }
+        ensures scheme { C.scheme hbs.new.cipher ≡ C.scheme hbs.old.cipher }
+    {
+        let answer = answer::<R, C, M>(heap, hbs, 1, self.line.as_bytes())?;
+        Ok(answer == self.answer)
+    }
 }
 
 /// Whether all three exchanges come out so, over a multiplier.
 fn agrees<C: Cipher, M: Multiplier>(
-    cipher: &mut C,
-    multiplier: &mut M,
+    hbs: &mut Hbs<C, M>,
     vector: &MessageVector,
 ) -> Result<bool, AllocError>
-    ensures answers { IfOk result (λ same. same ≡ true → Holds (C.scheme cipher.old) vector.now) }
-    ensures scheme { C.scheme cipher.new ≡ C.scheme cipher.old }
+    ensures answers { IfOk result (λ same. same ≡ true → Holds (C.scheme hbs.old.cipher) vector.now) }
+    ensures scheme { C.scheme hbs.new.cipher ≡ C.scheme hbs.old.cipher }
 {
-    let sealed = seals(vector.heap, cipher, multiplier, &vector.sealed)?;
-    let opened = opens(vector.heap, cipher, multiplier, &vector.opened)?;
-    let refused = opens(vector.heap, cipher, multiplier, &vector.damaged)?;
+    let heap = vector.heap;
+    let sealed = vector.sealed.holds::<WrapRequest, C, M>(heap, hbs)?;
+    let opened = vector.opened.holds::<UnwrapRequest, C, M>(heap, hbs)?;
+    let refused = vector.damaged.holds::<UnwrapRequest, C, M>(heap, hbs)?;
     Ok(sealed && opened && refused)
 }
 
@@ -88,9 +76,12 @@ impl Task for MessageVector {
 
     ghost comes = { λ v s r. IfOk r (λ same. same ≡ true → Holds s v) };
 
-    fn with<C: Cipher + Drop>(self, mut cipher: C) -> Result<bool, AllocError> {
-        let doubling = agrees(&mut cipher, &mut Doubling::new(), &self)?;
-        let table = agrees(&mut cipher, &mut Table::new(), &self)?;
+    fn with<C: Cipher + Drop>(self, cipher: C) -> Result<bool, AllocError> {
+        let mut hbs = Hbs::new(cipher, Doubling::new());
+        let doubling = agrees(&mut hbs, &self)?;
+        let Hbs { cipher, .. } = hbs;
+        let mut hbs = Hbs::new(cipher, Table::new());
+        let table = agrees(&mut hbs, &self)?;
         Ok(doubling && table)
     }
 }
@@ -98,11 +89,8 @@ impl Task for MessageVector {
 /// The tag with its first bit changed.
 fn another_tag(heap: Global, tag: &str) -> anyhow::Result<String> {
     let mut bytes = hex::decode(heap, Field::Tag, tag.as_bytes())?;
-    match bytes.first_mut() {
-        Some(first) => *first ^= 0x80,
-        None => return Err(anyhow!("no tag")),
-    }
-    Ok(hex::encode(heap, bytes.as_slice())?)
+    *bytes.first_mut().context("no tag")? ^= 0x80;
+    Ok(hex::encode(heap, &bytes)?)
 }
 
 impl MessageVector {
@@ -135,8 +123,8 @@ impl MessageVector {
     }
 }
 
-/// What kind of vector a line has, and whether it comes out as expected.
-pub(crate) fn work(heap: Global, line: &str) -> anyhow::Result<(String, bool)> {
+/// What kind of vector a line has, or `None` where it doesn't come out as expected.
+pub(crate) fn work(heap: Global, line: &str) -> anyhow::Result<Option<String>> {
     let mut words = line.split(' ');
     let name = words.next().context("no cipher")?;
     let fields = Fields {
@@ -148,5 +136,6 @@ pub(crate) fn work(heap: Global, line: &str) -> anyhow::Result<(String, bool)> {
     };
     let agrees = with_pile(heap, name, MessageVector::new(heap, fields)?)??;
     let cipher = kind(heap, name)?;
-    Ok((format!(in heap; "hbs {cipher}")?, agrees))
+    let kind = format!(in heap; "hbs {cipher}")?;
+    Ok(agrees.then_some(kind))
 }

@@ -1,9 +1,8 @@
 // Ciphers as the vectors name them: a cipher's name, or `whitened:A:B:` before such a name, once or twice.
-use anyhow::{Context, anyhow};
+use anyhow::Context;
 use block::Block;
 use lines::fault::Field;
 use lines::hex;
-use named::cipher_name::CipherName;
 use named::task::{Task, Whitening, with_cipher};
 use std::alloc::{AllocError, Global};
 
@@ -15,11 +14,8 @@ struct Layer<'a> {
 }
 
 pub(crate) fn read_block(heap: Global, text: &str) -> anyhow::Result<Block> {
-    let bytes = hex::decode(heap, Field::Message, text.as_bytes())?;
-    match <[u8; 16]>::try_from(bytes.as_slice()) {
-        Ok(bytes) => Ok(Block::from_bytes(bytes)),
-        Err(_) => Err(anyhow!("a block has 16 bytes")),
-    }
+    let bytes = hex::decode_array(heap, Field::Message, text.as_bytes())?;
+    Ok(Block::from_bytes(bytes.context("a block has 16 bytes")?))
 }
 
 /// The outermost whitening of a name, if it has one.
@@ -37,11 +33,17 @@ fn outermost(heap: Global, name: &str) -> anyhow::Result<Option<Layer<'_>>> {
 }
 
 fn with_plain<T: Task + Drop>(name: &str, task: T) -> anyhow::Result<T::Outcome> {
-    let name = CipherName::named(name).context("no cipher of that name")?;
+    let name = name.parse().ok().context("no cipher of that name")?;
     Ok(with_cipher(name, task))
 }
 
-fn with_inner<T: Task + Drop>(heap: Global, name: &str, task: T) -> anyhow::Result<T::Outcome> {
+/// Does the task with the cipher that a name stands for; `inner` does it with what is below a whitening.
+fn with_layer<T, F>(heap: Global, name: &str, task: T, inner: F) -> anyhow::Result<T::Outcome>
+where
+    T: Task + Drop,
+    F: FnOnce(&str, Whitening<T>) -> anyhow::Result<T::Outcome> + Drop,
+    requires { F.IsAlwaysCallable inner }
+{
     match outermost(heap, name)? {
         Some(
             Layer {
@@ -49,7 +51,7 @@ fn with_inner<T: Task + Drop>(heap: Global, name: &str, task: T) -> anyhow::Resu
                 after,
                 over,
             },
-        ) => with_plain(
+        ) => inner(
             over,
             Whitening {
                 before,
@@ -67,36 +69,19 @@ pub(crate) fn with_pile<T: Task + Drop>(
     name: &str,
     task: T,
 ) -> anyhow::Result<T::Outcome> {
-    match outermost(heap, name)? {
-        Some(
-            Layer {
-                before,
-                after,
-                over,
-            },
-        ) => with_inner(
-            heap,
-            over,
-            Whitening {
-                before,
-                after,
-                task,
-            },
-        ),
-        None => with_plain(name, task),
-    }
+    with_layer(heap, name, task, |over, task| {
+        with_layer(heap, over, task, |over, task| with_plain(over, task))
+    })
 }
 
 /// A name without the blocks of its whitenings.
 pub(crate) fn kind(heap: Global, name: &str) -> Result<String, AllocError> {
     let mut kind = String::new(heap);
-    for word in name.split(':') {
-        if word.len() != 32 {
-            if !kind.is_empty() {
-                kind.push_str(" ")?;
-            }
-            kind.push_str(word)?;
+    for word in name.split(':').filter(|word| word.len() != 32) {
+        if !kind.is_empty() {
+            kind.push(' ')?;
         }
+        kind.push_str(word)?;
     }
     Ok(kind)
 }

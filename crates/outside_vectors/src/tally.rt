@@ -17,20 +17,22 @@ impl Tally {
         }
     }
 
-    /// Counts a line, or names it where it differs.
+    /// Counts a line by its kind of vector, or names it where it has none, since it differs.
     pub(crate) fn note(
         &mut self,
         rt: &HostRuntime,
-        kind: String,
         line: &str,
-        agrees: bool,
+        agreed: Option<String>,
     ) -> anyhow::Result<()> {
-        if agrees {
-            let count = self.agreed.entry(kind)?.or_insert(0);
-            *count = count.saturating_add(1);
-        } else {
-            println!(rt; "differs: {line}")?;
-            self.differing = self.differing.saturating_add(1);
+        match agreed {
+            Some(kind) => {
+                let count = self.agreed.entry(kind)?.or_insert(0);
+                *count = count.saturating_add(1);
+            }
+            None => {
+                println!(rt; "differs: {line}")?;
+                self.differing = self.differing.saturating_add(1);
+            }
         }
         Ok(())
     }

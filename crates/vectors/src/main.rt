@@ -21,16 +21,13 @@ struct Vector {
 }
 
 fn read_block(heap: Global, text: &str) -> anyhow::Result<Block> {
-    let bytes = hex::decode(heap, Field::Message, text.as_bytes())?;
-    match <[u8; 16]>::try_from(bytes.as_slice()) {
-        Ok(bytes) => Ok(Block::from_bytes(bytes)),
-        Err(_) => Err(anyhow!("a block has 16 bytes")),
-    }
+    let bytes = hex::decode_array(heap, Field::Message, text.as_bytes())?;
+    Ok(Block::from_bytes(bytes.context("a block has 16 bytes")?))
 }
 
 /// What both directions come to.
 fn worked<C: Cipher + Drop>(mut cipher: C, vector: &Vector) -> &'static str {
-    if !cipher.load(vector.key.as_slice()) {
+    if cipher.load(&vector.key).is_err() {
         "a key of another length"
     } else if cipher.encipher(vector.block) != vector.enciphered {
         "enciphered to another block"
@@ -67,8 +64,7 @@ fn answer(heap: Global, line: &str) -> anyhow::Result<&'static str> {
 fn run(rt: &HostRuntime) -> anyhow::Result<()> {
     for line in BufReader::new(rt.alloc(), rt.stdin())?.lines(rt.alloc()) {
         let line = line?;
-        let outcome = answer(rt.alloc(), line.as_str())?;
-        let line = line.as_str();
+        let outcome = answer(rt.alloc(), &line)?;
         println!(rt; "{line}: {outcome}")?;
     }
     Ok(())
