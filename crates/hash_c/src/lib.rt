@@ -42,6 +42,8 @@ fn number(answer: Result<(), WrongSize>) -> u32
     }
 }
 
+// twins: C calls each by a name of its own
+
 /// The hash over the multiplier that doubles as it goes.
 #[unsafe(no_mangle)]
 pub extern "C" fn yotskheni_bench_hash_doubling(hash_key: &[u8], text: &[u8], out: &mut [u8]) -> u32

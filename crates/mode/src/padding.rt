@@ -10,7 +10,7 @@ use block::Block;
 pub(crate) fn is_whole(text: &[u8]) -> bool
     ensures { result ≡ whole text.now }
 {
-    text.len() != 0 && text.len() % 16 == 0
+    !text.is_empty() && text.len() % 16 == 0
 }
 
 /// Fewer than 16 bytes, filled up to a block.
@@ -20,7 +20,7 @@ pub(crate) fn filled(rest: &[u8]) -> Block
 {
     let mut bytes = [0; 16];
     let n = rest.len();
-    bytes[0..n].copy_from_slice(rest);
+    bytes[..n].copy_from_slice(rest);
     bytes[n] = 0x80;
     Block::from_bytes(bytes)
 }

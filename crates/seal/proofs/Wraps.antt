@@ -1,5 +1,6 @@
 -- What wrap and unwrap promise, from the laws of sealing and opening.
-use Rattle.std.proofs.Common.{◌≡◌, ℕ, ◌^◌, ◌<◌, Bool, true, false, cond, ◌&&◌, eqb, leb, List, length, Some, None, Option, sym, refl, ap, ◌∙◌, ap₂, arith, eqb-true}
+use Rattle.std.proofs.Common.{◌≡◌, ℕ, ◌^◌, ◌<◌, true, cond, eqb, List, length, Some, None, Option, sym, refl, ap, ◌∙◌, ap₂, arith}
+use Rattle.std.proofs.lemmas.Bool.Decides.{nat_tests}
 use Rattle.block.specs.Bytes.{AllBytes, spelled, bytes}
 use Rattle.block.proofs.Spelling.{spelled-bytes, spelled_block}
 use Rattle.cipher.specs.declared.Cipher as Cipher
@@ -13,13 +14,8 @@ use Rattle.mode.proofs.Inverts.{inverses}
 use Rattle.multiplier.specs.declared.Multiplier as Multiplier
 use Rattle.seal.specs.declared.fault.SealFault.TheVariants.{Size, Mismatch}
 use Rattle.seal.specs.Answers.{refusal}
-use Rattle.seal.specs.Sizes.{header_sized, message_sized, buffers_sized, sized}
+use Rattle.seal.specs.Sizes.{message_sized, sized}
 use Rattle.seal.specs.Wrapping.{given, accepted, left, verdict, Wrapped, Unwrapped}
-
-both_true : (a b : Bool) → (a && b) ≡ true → (a ≡ true) × (b ≡ true)
-both_true true true e = (refl, refl)
-both_true true false e = (refl, e)
-both_true false b e = let z : false ≡ true = e in (z, grind arith)
 
 -- once a key is loaded, it is what is held, with its hash key
 held : {C M : Type 0} {cs : Cipher.Ghosts C} {ms : Multiplier.Ghosts M} {k : List ℕ} {hbs hbs' : Hbs C M}
@@ -36,18 +32,13 @@ opens_held h t x load tag opens = sym (opens ∙ ap₂ (λ k a. opened_with k h 
 
 module _ (s : Scheme) (k : List ℕ) (h : Option (List ℕ)) (t x : List ℕ) where
   pub past : length t ≡ 16 → message_sized h x ≡ true → eqb (length k) s.key_len ≡ true → sized s k h t x ≡ true
-  past tag message key =
-      let parts = both_true (header_sized h) (leb (length x) 4096) message in
-      ap₂ ◌&&◌ (ap₂ ◌&&◌ parts.0 (ap₂ ◌&&◌ (ap (λ (n : ℕ). eqb n 16) tag) parts.1)) key
+  past tag message key = grind (arith, nat_tests)
 
   key_long : sized s k h t x ≡ true → length k ≡ s.key_len
-  key_long fits = eqb-true (length k) s.key_len (both_true (buffers_sized h t x) (eqb (length k) s.key_len) fits).1
+  key_long fits = grind (arith, nat_tests)
 
   tag_long : sized s k h t x ≡ true → length t ≡ 16
-  tag_long fits =
-      let buffers = (both_true (buffers_sized h t x) (eqb (length k) s.key_len) fits).0 in
-      let tail = (both_true (header_sized h) (eqb (length t) 16 && leb (length x) 4096) buffers).1 in
-      eqb-true (length t) 16 (both_true (eqb (length t) 16) (leb (length x) 4096) tail).0
+  tag_long fits = grind (arith, nat_tests)
 
   -- past the size test wrap leaves what is sealed, and that opens to the message
   pub wraps : Lawful s → AllBytes k → sized s k h t x ≡ true → {t' x' : List ℕ}

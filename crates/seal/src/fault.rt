@@ -20,6 +20,7 @@ impl SealFault {
     pub fn number(self) -> u32
         ensures { result ≡ refusal self }
     {
+        // numbers for refusals: the C interface and the lines show them
         match self {
             SealFault::Size => 4,
             SealFault::Mismatch => 14,
