@@ -26,9 +26,6 @@ pub returns : goal.returns
 returns c =
     let keys = take 9 (drop 1 c.args.keys.now) in
     let t = state_of c.loop-key.t in
-    let from = c.into_iter-key-iterator.ensures.into_iter_gives in
-    let source = c.rev-key-items.ensures.source in
-    let rest = c.iter.ensures.rest in
     let all : c.into_iter-key-iterator.result.iter.rest.now ≡ keys = cc in
     let none_left : c.loop-key.key-iterator.iter.rest.now ≡ [] = drop_of_length-le c.loop-key.key-iterator.iter.rest.now {i = 0} (omega (arith, c.in-None.ensures.steps.0)) in
     let done : t ≡ inv_middle (map state_of keys) (state_of c.bitxor-t.result) = rw (none_left, all) at c.loop-key.invariant in
