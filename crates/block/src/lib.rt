@@ -2,7 +2,7 @@
 #![tactic(auto)]
 
 ghost use Rattle.std.specs.Prelude.{◌≡◌, ◌+◌, ◌*◌, ◌/◌, ◌%◌, ◌^◌, ◌==◌, bit_xor};
-ghost use Rattle.block.specs.Bytes.{bytes as spelling, spelled};
+ghost use Rattle.block.specs.Bytes.{bytes as spelling, spelled, words_of};
 ghost use Rattle.block.specs.Field.{double, product};
 ghost use Rattle.block.specs.Num.{num};
 ghost use Rattle.block.specs.Theorems.{ByteLaws, FieldLaws};
@@ -97,6 +97,19 @@ impl Block {
         }
         sum
     }
+}
+
+/// Sixteen bytes as four words, the first byte of each most significant.
+pub fn be_words(bytes: [u8; 16]) -> [u32; 4]
+    ensures { result ≡ words_of bytes }
+{
+    let [a, b, c, d, e, f, g, h, i, j, k, l, m, n, o, p] = bytes;
+    [
+        u32::from_be_bytes([a, b, c, d]),
+        u32::from_be_bytes([e, f, g, h]),
+        u32::from_be_bytes([i, j, k, l]),
+        u32::from_be_bytes([m, n, o, p]),
+    ]
 }
 
 impl From<u64> for Block {

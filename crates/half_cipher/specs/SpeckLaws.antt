@@ -4,9 +4,10 @@ use Rattle.std.proofs.Common.{ap, ap₂, ◌∙◌, arith, lit<}
 use Rattle.std.specs.Int.Bits.{bit_xor}
 use Rattle.std.proofs.lemmas.Nat.{xor_lt}
 use Rattle.block.proofs.Laws.{xor_twice}
+use Rattle.block.specs.Bytes.{word_at}
 use Rattle.half_cipher.specs.Maps.{LawfulHalf, IsHalfKey}
 use Rattle.half_cipher.specs.Speck.{Schedule, first, next, round, round_at, round_key, speck, unround, unround_at}
-use Rattle.half_cipher.specs.Words.{add, sub, words_of_key, rotate_left, rotate_right, word_at}
+use Rattle.half_cipher.specs.Words.{add, sub, words_of_key, rotate_left, rotate_right}
 use Rattle.half_cipher.specs.HalfLaws.{AreWords, lawful_rounds}
 use Rattle.half_cipher.specs.Iterated.{rounds_keep}
 use Rattle.half_cipher.specs.Rotations.{add_lt, sub_lt, sub-add, add-sub, left_lt, right_lt, left-right, right-left}

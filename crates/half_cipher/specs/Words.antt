@@ -1,6 +1,7 @@
 -- Words of 32 bits, and a key as four such words, big-endian.
-use Rattle.std.specs.Prelude.{List, [], ◌∷◌, ℕ, ◌+◌, ◌-◌, ◌*◌, ◌/◌, ◌%◌, ◌^◌, get_or}
+use Rattle.std.specs.Prelude.{List, ℕ, ◌+◌, ◌-◌, ◌*◌, ◌/◌, ◌%◌, ◌^◌}
 use Rattle.std.specs.Int.Bits.{bit_or}
+use Rattle.block.specs.Bytes.{words_of}
 
 abbrev pub add : ℕ → ℕ → ℕ
 add a b = (a + b) % 2 ^ 32
@@ -20,9 +21,6 @@ rotate_left n a = bit_or (shift_left n a) (shift_right (32 - n) a)
 abbrev pub rotate_right : ℕ → ℕ → ℕ
 rotate_right n a = bit_or (shift_right n a) (shift_left (32 - n) a)
 
--- the word of four bytes from place i on
-abbrev pub word_at : List ℕ → ℕ → ℕ
-word_at k i = get_or k i 0 * 2 ^ 24 + get_or k (i + 1) 0 * 2 ^ 16 + get_or k (i + 2) 0 * 2 ^ 8 + get_or k (i + 3) 0
-
+-- the words of a key
 abbrev pub words_of_key : List ℕ → List ℕ
-words_of_key k = word_at k 0 ∷ word_at k 4 ∷ word_at k 8 ∷ word_at k 12 ∷ []
+words_of_key = words_of

@@ -5,8 +5,9 @@ ghost use Rattle.half_cipher.specs.Words.{words_of_key};
 ghost use Rattle.std.specs.Prelude.{ℕ, ◌<◌, get_or, ◌≡◌};
 ghost use Rattle.half_cipher.specs.SpeckLaws.{speck_lawful};
 
-use crate::words::{Words, join, key_words, split};
+use crate::words::{Words, join, split};
 use crate::{HalfCipher, HalfKey};
+use block::be_words;
 
 const ROUNDS: usize = 27;
 
@@ -35,7 +36,7 @@ fn undo_round(k: u32, v: Words) -> Words
 fn round_keys(key: &HalfKey) -> [u32; ROUNDS]
     ensures { result ≡ keys_of (round_key (words_of_key key.now)) ROUNDS }
 {
-    let [mut l2, mut l1, mut l0, mut k] = key_words(key);
+    let [mut l2, mut l1, mut l0, mut k] = be_words(*key);
     let mut keys = [0; ROUNDS];
     for (i, slot) in keys.iter_mut().enumerate() {
         *slot = k;

@@ -1,9 +1,6 @@
-// Halves and keys as words of 32 bits, big-endian.
+// Halves as words of 32 bits, big-endian.
 ghost use Rattle.half_cipher.specs.Pairs.{joined, parted};
-ghost use Rattle.half_cipher.specs.Words.{words_of_key};
 ghost use Rattle.std.specs.Prelude.{◌≡◌};
-
-use crate::HalfKey;
 
 /// The two words of a half, the first one most significant.
 // split and join by name and no From: a pair says nothing of an order, and a struct for it would be taken apart in each round
@@ -25,18 +22,4 @@ pub(crate) fn join(v: Words) -> u64
     let [a, b, c, d] = v.0.to_be_bytes();
     let [e, f, g, h] = v.1.to_be_bytes();
     u64::from_be_bytes([a, b, c, d, e, f, g, h])
-}
-
-/// The four words of a key.
-// AES parts its state so too; a function for both would stand in a third crate, and be longer than what it saves
-pub(crate) fn key_words(key: &HalfKey) -> [u32; 4]
-    ensures { result ≡ words_of_key key.now }
-{
-    let [a, b, c, d, e, f, g, h, i, j, k, l, m, n, o, p] = *key;
-    [
-        u32::from_be_bytes([a, b, c, d]),
-        u32::from_be_bytes([e, f, g, h]),
-        u32::from_be_bytes([i, j, k, l]),
-        u32::from_be_bytes([m, n, o, p]),
-    ]
 }

@@ -3,8 +3,9 @@ ghost use Rattle.half_cipher.specs.Xtea.{addend, cycle, mixed, sum_at, uncycle, 
 ghost use Rattle.std.specs.Prelude.{◌≡◌};
 ghost use Rattle.half_cipher.specs.XteaLaws.{xtea_lawful};
 
-use crate::words::{Words, join, key_words, split};
+use crate::words::{Words, join, split};
 use crate::{HalfCipher, HalfKey};
+use block::be_words;
 
 const CYCLES: u32 = 32;
 
@@ -60,7 +61,7 @@ impl HalfCipher for Xtea {
     ghost lawful = { λ h. xtea_lawful };
 
     fn forward(&self, key: &HalfKey, half: u64) -> u64 {
-        let k = key_words(key);
+        let k = be_words(*key);
         let mut v = split(half);
         // a loop by number: a cycle's sums come from its number, and a fold would have to show at each call that i + 1 fits
         for i in 0..CYCLES {
@@ -70,7 +71,7 @@ impl HalfCipher for Xtea {
     }
 
     fn backward(&self, key: &HalfKey, half: u64) -> u64 {
-        let k = key_words(key);
+        let k = be_words(*key);
         let mut v = split(half);
         // by number again, from the last
         for i in (0..CYCLES).rev() {

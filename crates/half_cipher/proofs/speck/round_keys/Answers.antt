@@ -8,7 +8,7 @@ use Rattle.half_cipher.proofs.speck.round_keys.Goals as goal
 
 pub loop-i-init : goal.loop-i-init
 unfolding rounds
-loop-i-init c = (refl, ap first c.key_words.ensures, λ j h. absurd (omega arith))
+loop-i-init c = (refl, ap first c.be_words.ensures, λ j h. absurd (omega arith))
 
 pub loop-i-preserved : goal.loop-i-preserved
 loop-i-preserved c =

@@ -9,4 +9,4 @@ unfolding rounds
 loop-i-init c = refl
 
 pub loop-i-preserved : goal.loop-i-preserved
-loop-i-preserved c = let more = rounds_more (cycle_at c.key_words-k.result) c.loop-i.i c.split-v.result in cc
+loop-i-preserved c = let more = rounds_more (cycle_at c.be_words-k.result) c.loop-i.i c.split-v.result in cc
