@@ -4,6 +4,7 @@ ghost use Rattle.aes_tables.specs.Words.{word};
 ghost use Rattle.fips197.specs.State.{add_round_key};
 ghost use Rattle.std.specs.Prelude.{◌≡◌, ◌%◌};
 
+use block::be_words;
 use fips197::Substitution;
 use std::ops::BitXor;
 
@@ -15,13 +16,7 @@ impl From<[u8; 16]> for Columns {
     ghost from_gives = { λ bytes s. state_of s ≡ bytes };
 
     fn from(bytes: [u8; 16]) -> Columns {
-        let [a, b, c, d, e, f, g, h, i, j, k, l, m, n, o, p] = bytes;
-        Columns([
-            u32::from_be_bytes([a, b, c, d]),
-            u32::from_be_bytes([e, f, g, h]),
-            u32::from_be_bytes([i, j, k, l]),
-            u32::from_be_bytes([m, n, o, p]),
-        ])
+        Columns(be_words(bytes))
     }
 }
 
