@@ -259,6 +259,7 @@ mod tests {
         let mut hbs = Hbs::new(pile, Table::new());
         wrap(&mut hbs, &block(2), Some(&header), &mut tag, &mut text)?;
         assert_ne!(rt; text, block(3));
+        hbs.multiplier = Table::new();
         unwrap(&mut hbs, &block(2), Some(&header), &tag, &mut text)?;
         assert_eq!(rt; text, block(3));
         Ok(())
