@@ -1,29 +1,32 @@
 // Lines from standard input, each answered by a line.
-use crate::names::Call;
-use answers::wrapping::{answer_unwrap, answer_wrap};
+use answers::wrapping::{Answered, answer};
 use cipher::Cipher;
+use mode::hbs::Hbs;
 use multiplier::{Doubling, Multiplier, Table};
 use named::multiplier_name::MultiplierName;
 use named::task::Task;
 use std::io::{BufRead, BufReader};
+use std::marker::PhantomData;
 
-/// A line without the newline that ends it.
-fn without_newline(line: &[u8]) -> &[u8] {
-    match line {
-        [front @ .., b'\n'] => front,
-        whole => whole,
+/// Lines to answer as requests of one form, over the multiplier that is named.
+#[derive(Drop)]
+pub(crate) struct Answering<'a, R> {
+    rt: &'a HostRuntime,
+    multiplier: MultiplierName,
+    form: PhantomData<R>,
+}
+
+impl<'a, R> Answering<'a, R> {
+    pub(crate) fn new(rt: &'a HostRuntime, multiplier: MultiplierName) -> Answering<'a, R> {
+        Answering {
+            rt,
+            multiplier,
+            form: PhantomData,
+        }
     }
 }
 
-/// Lines to answer, over the multiplier that is named.
-#[derive(Drop)]
-pub(crate) struct Answering<'a> {
-    pub(crate) rt: &'a HostRuntime,
-    pub(crate) call: Call,
-    pub(crate) multiplier: MultiplierName,
-}
-
-impl Task for Answering<'_> {
+impl<R: Answered> Task for Answering<'_, R> {
     type Outcome = anyhow::Result<()>;
 
     // what is printed stands in no clause
@@ -31,29 +34,23 @@ impl Task for Answering<'_> {
 
     fn with<C: Cipher + Drop>(self, cipher: C) -> anyhow::Result<()> {
         match self.multiplier {
-            MultiplierName::Doubling => answer_lines(self.rt, self.call, cipher, Doubling::new()),
-            MultiplierName::Table => answer_lines(self.rt, self.call, cipher, Table::new()),
+            MultiplierName::Doubling => {
+                answer_lines::<R, C, _>(self.rt, Hbs::new(cipher, Doubling::new()))
+            }
+            MultiplierName::Table => {
+                answer_lines::<R, C, _>(self.rt, Hbs::new(cipher, Table::new()))
+            }
         }
     }
 }
 
-fn answer_lines<C: Cipher + Drop, M: Multiplier + Drop>(
+fn answer_lines<R: Answered, C: Cipher + Drop, M: Multiplier + Drop>(
     rt: &HostRuntime,
-    call: Call,
-    mut cipher: C,
-    mut multiplier: M,
+    mut hbs: Hbs<C, M>,
 ) -> anyhow::Result<()> {
-    let mut input = BufReader::new(rt.alloc(), rt.stdin())?;
-    for number in 1..u64::MAX {
-        let mut line = Vec::new(rt.alloc());
-        if input.read_until(b'\n', &mut line)? == 0 {
-            break;
-        }
-        let text = without_newline(line.as_slice());
-        let answer = match call {
-            Call::Wrap => answer_wrap(rt.alloc(), &mut cipher, &mut multiplier, number, text)?,
-            Call::Unwrap => answer_unwrap(rt.alloc(), &mut cipher, &mut multiplier, number, text)?,
-        };
+    let lines = BufReader::new(rt.alloc(), rt.stdin())?.split(rt.alloc(), b'\n');
+    for (number, line) in (1..u64::MAX).zip(lines) {
+        let answer = answer::<R, C, M>(rt.alloc(), &mut hbs, number, &line?)?;
         println!(rt; "{answer}")?;
     }
     Ok(())

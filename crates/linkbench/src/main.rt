@@ -9,8 +9,7 @@ mod show;
 
 use answering::Answering;
 use anyhow::{Context, anyhow};
-use named::cipher_name::CipherName;
-use named::multiplier_name::MultiplierName;
+use lines::request::{UnwrapRequest, WrapRequest};
 use named::task::with_cipher;
 use names::Call;
 use std::env;
@@ -25,17 +24,15 @@ fn run(rt: &HostRuntime) -> anyhow::Result<()> {
         [] => show::show(rt),
         [call, telegram] if call.as_str() == "fields" => fields::show(rt, telegram.as_str()),
         [call, cipher, multiplier] => {
-            let call = Call::named(call.as_str()).context(USAGE)?;
-            let cipher = CipherName::named(cipher.as_str()).context(USAGE)?;
-            let multiplier = MultiplierName::named(multiplier.as_str()).context(USAGE)?;
-            with_cipher(
-                cipher,
-                Answering {
-                    rt,
-                    call,
-                    multiplier,
-                },
-            )
+            let call = call.parse().ok().context(USAGE)?;
+            let cipher = cipher.parse().ok().context(USAGE)?;
+            let multiplier = multiplier.parse().ok().context(USAGE)?;
+            match call {
+                Call::Wrap => with_cipher(cipher, Answering::<WrapRequest>::new(rt, multiplier)),
+                Call::Unwrap => {
+                    with_cipher(cipher, Answering::<UnwrapRequest>::new(rt, multiplier))
+                }
+            }
         }
         _ => Err(anyhow!("{USAGE}")),
     }

@@ -1,17 +1,21 @@
 // What a caller may ask for.
+use named::unknown_name::UnknownName;
+use std::str::FromStr;
 
-#[derive(Clone, Copy)]
+#[derive(Clone, Copy, PartialEq, Eq, Debug)]
 pub(crate) enum Call {
     Wrap,
     Unwrap,
 }
 
-impl Call {
-    pub(crate) fn named(name: &str) -> Option<Call> {
+impl FromStr for Call {
+    type Err = UnknownName;
+
+    fn from_str(name: &str) -> Result<Call, UnknownName> {
         match name {
-            "wrap" => Some(Call::Wrap),
-            "unwrap" => Some(Call::Unwrap),
-            _ => None,
+            "wrap" => Ok(Call::Wrap),
+            "unwrap" => Ok(Call::Unwrap),
+            _ => Err(UnknownName),
         }
     }
 }

@@ -1,6 +1,7 @@
 // One measurement from start to end: sealed, opened again, damaged and refused.
 use aes::aes128::Aes128;
 use lines::hex;
+use mode::hbs::Hbs;
 use multiplier::{Doubling, Multiplier};
 use seal::fault::SealFault;
 use seal::wrapping::{unwrap, wrap};
@@ -13,15 +14,6 @@ const KEY: [u8; 16] = [
 const HEADER: &str = "gauge 3";
 
 const MEASUREMENT: &[u8; 18] = b"thickness 0.502 mm";
-
-fn is_zero(bytes: &[u8]) -> bool {
-    for b in bytes {
-        if *b != 0 {
-            return false;
-        }
-    }
-    true
-}
 
 /// A name, and bytes in hex ..
 fn field(rt: &HostRuntime, name: &str, bytes: &[u8]) -> anyhow::Result<()> {
@@ -49,7 +41,7 @@ fn outcome(rt: &HostRuntime, answer: Result<(), SealFault>, text: &[u8]) -> anyh
             let number = fault.number();
             println!(rt; "  refused {number} seal: {fault}")?;
             field(rt, "buffer", text)?;
-            if is_zero(text) {
+            if text.iter().all(|b| *b == 0) {
                 println!(rt; "  every byte of the buffer is zero")?;
             }
             Ok(())
@@ -58,8 +50,7 @@ fn outcome(rt: &HostRuntime, answer: Result<(), SealFault>, text: &[u8]) -> anyh
 }
 
 pub(crate) fn show(rt: &HostRuntime) -> anyhow::Result<()> {
-    let mut cipher = Aes128::new();
-    let mut multiplier = Doubling::new();
+    let mut hbs = Hbs::new(Aes128::new(), Doubling::new());
     let header = HEADER.as_bytes();
     println!(rt; "A measurement, under AES-128 and the doubling multiplier")?;
     field(rt, "key", &KEY)?;
@@ -67,37 +58,16 @@ pub(crate) fn show(rt: &HostRuntime) -> anyhow::Result<()> {
     text_field(rt, "measurement", MEASUREMENT)?;
     let mut tag = [0; 16];
     let mut text = *MEASUREMENT;
-    wrap(
-        &mut cipher,
-        &mut multiplier,
-        &KEY,
-        Some(header),
-        &mut tag,
-        &mut text,
-    )?;
+    wrap(&mut hbs, &KEY, Some(header), &mut tag, &mut text)?;
     println!(rt; "Sealed")?;
     field(rt, "tag", &tag)?;
     field(rt, "ciphertext", &text)?;
     let mut damaged = text;
     damaged[0] ^= 1;
     println!(rt; "Opened again")?;
-    let answer = unwrap(
-        &mut cipher,
-        &mut multiplier,
-        &KEY,
-        Some(header),
-        &tag,
-        &mut text,
-    );
+    let answer = unwrap(&mut hbs, &KEY, Some(header), &tag, &mut text);
     outcome(rt, answer, &text)?;
     println!(rt; "One bit of the ciphertext flipped, and opened")?;
-    let answer = unwrap(
-        &mut cipher,
-        &mut multiplier,
-        &KEY,
-        Some(header),
-        &tag,
-        &mut damaged,
-    );
+    let answer = unwrap(&mut hbs, &KEY, Some(header), &tag, &mut damaged);
     outcome(rt, answer, &damaged)
 }
