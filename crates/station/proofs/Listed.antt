@@ -1,7 +1,7 @@
 -- The entries of a report.
-use Rattle.std.proofs.Common.{◌≡◌, ℕ, ◌+◌, ◌*◌, ◌≤◌, true, false, cond, eqb, ltb, List, [], ◌∷◌, ◌++◌, length, take, drop, sym, refl, ap, ◌∙◌, append_assoc, add-one, arith, length-append, length-take-le}
-use borrow.Rule.Slice.PartMut.{put_mid}
-use Rattle.std.proofs.lemmas.List.{append-nil, take_at}
+use Rattle.std.proofs.Common.{◌≡◌, ℕ, ◌+◌, ◌*◌, true, false, cond, ltb, List, [], ◌∷◌, ◌++◌, length, drop, sym, refl, ap, ◌∙◌, add-one, map}
+use Rattle.std.proofs.lemmas.List.{append-nil, map-append}
+use Rattle.std.specs.List.{flat_map}
 use Rattle.station.specs.declared.parts.Gauge.{Gauge}
 use Rattle.std.specs.List.Sorted.{IsPermutation}
 use Rattle.std.proofs.lemmas.List.Sorted.{IsPermutation-refl}
@@ -10,35 +10,24 @@ use Rattle.station.specs.Reports.{Reporting, entry, heard_gauges, heard_of, is_h
 use Rattle.station.specs.State.{State}
 use Rattle.station.specs.Tests.{past}
 
--- five bytes put behind n times five
-pub pushed : (n k : ℕ) (x e : List ℕ) → length e ≡ 5 → 5 * n ≤ length x → take (5 * (n + 1)) (put_mid (5 * n) k x e) ≡ take (5 * n) x ++ e
-pushed n k x e five room =
-    ap (take (5 * (n + 1))) (sym (append_assoc (take (5 * n) x) e (drop k (drop (5 * n) x))))
-    ∙ take_at (take (5 * n) x ++ e) (drop k (drop (5 * n) x)) (5 * (n + 1))
-    (length-append (take (5 * n) x) e ∙ (let h = length-take-le (5 * n) x room in omega arith))
-
-pub eqb_of_zero : (n : ℕ) → n ≡ 0 → eqb n 0 ≡ true
-eqb_of_zero n is = ap (λ (m : ℕ). eqb m 0) is
-
 -- one gauge more
 more : (gs : List Gauge) (i : ℕ) → heard_of gs (i + 1) ≡ heard_of gs i ++ cond (is_heard gs i) (i ∷ []) []
 unfolding heard_of
 more gs i = ap (heard_of gs) (add-one i)
 
-pub more_heard : (gs : List Gauge) (i : ℕ) → is_heard gs i ≡ true → heard_of gs (i + 1) ≡ heard_of gs i ++ (i ∷ [])
-more_heard gs i heard = more gs i ∙ ap (λ b. heard_of gs i ++ cond b (i ∷ []) []) heard
+pub heard_more : (gs : List Gauge) (i : ℕ) → is_heard gs i ≡ true → map (entry gs) (heard_of gs (i + 1)) ≡ map (entry gs) (heard_of gs i) ++ (entry gs i ∷ [])
+heard_more gs i heard =
+    ap (map (entry gs)) (more gs i ∙ ap (λ b. heard_of gs i ++ cond b (i ∷ []) []) heard) ∙ map-append (entry gs) (heard_of gs i) (i ∷ [])
 
-pub more_unheard : (gs : List Gauge) (i : ℕ) → is_heard gs i ≡ false → heard_of gs (i + 1) ≡ heard_of gs i
-more_unheard gs i unheard = more gs i ∙ ap (λ b. heard_of gs i ++ cond b (i ∷ []) []) unheard ∙ append-nil (heard_of gs i)
+pub unheard_same : (gs : List Gauge) (i : ℕ) → is_heard gs i ≡ false → map (entry gs) (heard_of gs (i + 1)) ≡ map (entry gs) (heard_of gs i)
+unheard_same gs i unheard =
+    ap (map (entry gs)) (more gs i ∙ ap (λ b. heard_of gs i ++ cond b (i ∷ []) []) unheard ∙ append-nil (heard_of gs i))
 
-listing_append : (gs : List Gauge) (xs ys : List ℕ) → listing gs (xs ++ ys) ≡ listing gs xs ++ listing gs ys
+-- the entries, joined
+pub joined : (gs : List Gauge) (xs : List ℕ) → flat_map (λ x. x) (map (entry gs) xs) ≡ listing gs xs
 unfolding listing
-listing_append gs [] ys = refl
-listing_append gs (x ∷ xs) ys = ap (λ rest. entry gs x ++ rest) (listing_append gs xs ys) ∙ sym (append_assoc (entry gs x) (listing gs xs) (listing gs ys))
-
-pub listing_more : (gs : List Gauge) (xs : List ℕ) (i : ℕ) → listing gs (xs ++ (i ∷ [])) ≡ listing gs xs ++ entry gs i
-unfolding listing
-listing_more gs xs i = listing_append gs xs (i ∷ []) ∙ ap (λ rest. listing gs xs ++ rest) (append-nil (entry gs i))
+joined gs [] = refl
+joined gs (x ∷ xs) = ap (λ rest. entry gs x ++ rest) (joined gs xs)
 
 -- ---- a report, from what its tests found
 

@@ -1,5 +1,5 @@
 -- What a station holds.
-use Rattle.std.specs.Prelude.{ℕ, Bool, List, take, replicate, Option, slice_index_or}
+use Rattle.std.specs.Prelude.{ℕ, Bool, List, replicate, Option, slice_index_or}
 use Rattle.std.specs.Option.{option_map}
 use Rattle.cipher.specs.Scheme.{Scheme}
 use Rattle.cipher.specs.declared.Cipher as Cipher
@@ -19,7 +19,7 @@ abbrev pub wait : ℕ → ℕ → List ℕ → Waiting
 wait sender serial key = record { sender = sender; serial = serial; key = key }
 
 abbrev pub waiting : Change → Waiting
-waiting c = record { sender = c.sender; serial = c.serial; key = take c.key_len c.key }
+waiting c = record { sender = c.sender; serial = c.serial; key = c.key.items }
 
 pub record State : Type 0 where
   pub scheme : Scheme

@@ -9,6 +9,7 @@ use crate::admission::Admission;
 use crate::fault::StationFault;
 use crate::order::ChangeOrder;
 use crate::parts::{Change, Station};
+use arrayvec::ArrayVec;
 use cipher::Cipher;
 use multiplier::Multiplier;
 use seal::fault::SealFault;
@@ -21,13 +22,10 @@ impl Change {
         requires { length key.now ≤ 255 }
         ensures { waiting result ≡ wait sender serial key.now }
     {
-        let mut bytes = [0; 255];
-        bytes[0..key.len()].copy_from_slice(key);
         Change {
             sender,
             serial,
-            key: bytes,
-            key_len: key.len(),
+            key: ArrayVec::try_from(key).unwrap(),
         }
     }
 }

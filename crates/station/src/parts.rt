@@ -1,5 +1,6 @@
 // What a station holds.
 use crate::wear::Wear;
+use arrayvec::ArrayVec;
 
 /// What is known of a gauge under the key in force.
 #[derive(Clone, Copy)]
@@ -9,17 +10,15 @@ pub struct Gauge {
 }
 
 /// A key that was opened, and waits to come into force.
-#[derive(Clone, Copy)]
+#[derive(Drop)]
 pub struct Change {
     pub(crate) sender: u8,
     pub(crate) serial: u32,
-    // the key stands in front
-    pub(crate) key: [u8; 255],
-    pub(crate) key_len: usize,
+    pub(crate) key: ArrayVec<u8, 255>,
 }
 
 /// The station's record.
-#[derive(Clone, Copy)]
+#[derive(Drop)]
 pub struct Ledger {
     pub(crate) started: bool,
     pub(crate) own: u8,

@@ -1,13 +1,13 @@
 // Which gauges were heard.
-ghost use Rattle.std.specs.Prelude.{◌≡◌, ◌+◌, ◌*◌, ◌<◌, ◌∷◌, ◌++◌, length, take};
+ghost use Rattle.std.specs.Prelude.{◌≡◌, map};
 ghost use Rattle.station.specs.Calls.{Reported};
-ghost use Rattle.station.specs.Reports.{Reporting, heard_of, listing};
+ghost use Rattle.station.specs.Reports.{Reporting, entry, heard_of};
 ghost use Rattle.station.specs.State.{view};
 ghost use Rattle.station.specs.Steps.{answered};
-ghost use Rattle.telegram.specs.Header.{four};
 
 use crate::fault::StationFault;
 use crate::parts::{Ledger, Station};
+use arrayvec::ArrayVec;
 use cipher::Cipher;
 use multiplier::Multiplier;
 
@@ -21,49 +21,16 @@ pub struct Report {
     pub message_blocks: u64,
 }
 
-/// Entries of five bytes, one for each gauge that was heard.
-pub(crate) struct Entries {
-    // they stand in front
-    pub(crate) bytes: [u8; 80],
-    pub(crate) count: usize,
-}
-
-impl Drop for Entries {
-    fn drop(self) {
-        let Entries { bytes: _, count: _ } = self;
-    }
-}
-
-impl Entries {
-    /// One entry more.
-    fn push(&mut self, gauge: u8, last: u32)
-        requires { self.old.count < 16 }
-        ensures count { self.new.count ≡ self.old.count + 1 }
-        ensures bytes { take (5 * self.new.count) self.new.bytes ≡ take (5 * self.old.count) self.old.bytes ++ (gauge ∷ four last) }
-    {
-        let [a, b, c, d] = last.to_be_bytes();
-        let start = 5 * self.count;
-        let end = start + 5;
-        self.bytes[start..end].copy_from_slice(&[gauge, a, b, c, d]);
-        self.count += 1;
-    }
-}
-
 impl Ledger {
-    /// An entry for each gauge that was heard.
-    fn entries(&self) -> Entries
-        ensures count { result.count ≡ length (heard_of self.now.gauges 16) }
-        ensures bytes { take (5 * result.count) result.bytes ≡ listing self.now.gauges (heard_of self.now.gauges 16) }
-        ensures most { result.count < 17 }
+    /// An entry of five bytes for each gauge that was heard.
+    fn entries(&self) -> ArrayVec<[u8; 5], 16>
+        ensures { result.items ≡ map (entry self.now.gauges) (heard_of self.now.gauges 16) }
     {
-        let mut entries = Entries {
-            bytes: [0; 80],
-            count: 0,
-        };
-        for gauge in 0..16u8 {
-            let last = self.gauges[gauge as usize].last;
-            if last != 0 {
-                entries.push(gauge, last);
+        let mut entries = ArrayVec::new();
+        for (number, gauge) in self.gauges.iter().enumerate() {
+            if gauge.last != 0 {
+                let [a, b, c, d] = gauge.last.to_be_bytes();
+                entries.push([number as u8, a, b, c, d]);
             }
         }
         entries
@@ -82,13 +49,13 @@ impl<C: Cipher, M: Multiplier> Station<C, M> {
             return Err(StationFault::NotStarted);
         }
         let entries = self.ledger.entries();
-        let len = 5 * entries.count;
-        if out.len() < len {
+        let bytes = entries.as_flattened();
+        if out.len() < bytes.len() {
             return Err(StationFault::OutputShort);
         }
-        out[0..len].copy_from_slice(&entries.bytes[0..len]);
+        out[0..bytes.len()].copy_from_slice(bytes);
         Ok(Report {
-            count: entries.count,
+            count: entries.len(),
             calls: self.ledger.wear.calls,
             header_blocks: self.ledger.wear.header_blocks,
             message_blocks: self.ledger.wear.message_blocks,

@@ -1,33 +1,31 @@
-use Rattle.std.proofs.Common.{ℕ, ◌+◌, ◌*◌, not, List, [], ◌∷◌, ◌++◌, length, take, sym, refl, ap, ◌∙◌, arith, length-append, rules, ne_eqb}
+use Rattle.std.proofs.Common.{ℕ, not, eqb, List, [], ◌∷◌, ◌++◌, length, get_or, sym, ap, ap₂, ◌∙◌, arith, rules, ne_eqb}
+use Rattle.arrayvec.specs.ArrayVec.{ArrayVec}
 use Rattle.station.specs.State.{last_of}
-use Rattle.station.specs.Reports.{entry, heard_of, listing}
-use Rattle.station.specs.declared.reporting.Entries.{Entries}
-use Rattle.station.proofs.Listed.{eqb_of_zero, listing_more, more_heard, more_unheard}
+use Rattle.station.proofs.Listed.{heard_more, unheard_same}
+use Rattle.station.specs.Reports.{heard_of}
 use Rattle.station.proofs.parts.Ledger.entries.Goals as goal
-use Rattle.station.proofs.parts.Ledger.entries.Goals.{then-last-ne0, else-last-ne0}
+use Rattle.station.proofs.parts.Ledger.entries.Goals.{then-gauge-ne0, else-gauge-ne0}
 
-pub loop-gauge-init : goal.loop-gauge-init
-unfolding heard_of listing
-loop-gauge-init c = (search rules, refl, refl)
+abbrev items : ArrayVec (List ℕ) → List (List ℕ)
+items v = v.items
 
-pub loop-gauge-preserved : goal.loop-gauge-preserved
-loop-gauge-preserved c =
+pub loop-number-init : goal.loop-number-init
+unfolding heard_of
+loop-number-init c = search rules
+
+pub loop-number-preserved : goal.loop-number-preserved
+loop-number-preserved c =
     let gs = c.args.self.now.gauges in
-    let i = c.loop-gauge.gauge in
-    elim c.if-last-ne0.branch [
-      | then-last-ne0 w ↦
-          let heard = more_heard gs i (ap not (ne_eqb (last_of i gs) 0 w.if-last-ne0.true)) in
-          let count = ap (λ (e : Entries). e.count) w.entries-is ∙ w.push.ensures.count in (
-            omega (arith, count, c.loop-gauge.invariant.0),
-            count ∙ ap (λ (n : ℕ). n + 1) c.loop-gauge.invariant.1 ∙ sym (ap length heard ∙ length-append (heard_of gs i) (i ∷ [])),
-            ap (λ (e : Entries). take (5 * e.count) e.bytes) w.entries-is ∙ w.push.ensures.bytes
-                ∙ ap (λ (x : List ℕ). x ++ entry gs i) c.loop-gauge.invariant.2 ∙ sym (ap (listing gs) heard ∙ listing_more gs (heard_of gs i) i),
+    let i = c.loop-number.number in
+    elim c.if-gauge-ne0.branch [
+      | then-gauge-ne0 w ↦
+          let heard = heard_more gs i (ap not (ne_eqb (last_of i gs) 0 w.if-gauge-ne0.true)) in
+          let same = ap items w.entries-is in (
+            omega (arith, ap length same, w.push.ensures.len, c.loop-number.invariant.0),
+            same ∙ w.push.ensures.items ∙ ap₂ (λ xs e. xs ++ (e ∷ [])) c.loop-number.invariant.1 (ap (λ (r : List ℕ). i ∷ get_or r 0 0 ∷ get_or r 1 0 ∷ get_or r 2 0 ∷ get_or r 3 0 ∷ []) w.to_be_bytes.ensures) ∙ sym heard,
           )
-      | else-last-ne0 w ↦
-          let unheard = more_unheard gs i (ap not (eqb_of_zero (last_of i gs) w.if-last-ne0.false)) in
-          let same = w.entries-is in (
-            omega (arith, ap (λ (e : Entries). e.count) same, c.loop-gauge.invariant.0),
-            ap (λ (e : Entries). e.count) same ∙ c.loop-gauge.invariant.1 ∙ sym (ap length unheard),
-            ap (λ (e : Entries). take (5 * e.count) e.bytes) same ∙ c.loop-gauge.invariant.2 ∙ sym (ap (listing gs) unheard),
-          )
+      | else-gauge-ne0 w ↦
+          let unheard = unheard_same gs i (ap (λ (n : ℕ). not (eqb n 0)) w.if-gauge-ne0.false) in
+          let same = ap items w.entries-is in
+          (omega (arith, ap length same, c.loop-number.invariant.0), same ∙ c.loop-number.invariant.1 ∙ sym unheard)
     ]

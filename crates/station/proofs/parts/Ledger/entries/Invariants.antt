@@ -1,9 +1,7 @@
-use Rattle.std.proofs.Common.{◌≡◌, ◌*◌, ◌≤◌, length, take}
-use Rattle.station.specs.Reports.{heard_of, listing}
+use Rattle.std.proofs.Common.{◌≡◌, ◌≤◌, length, map}
+use Rattle.station.specs.Reports.{entry, heard_of}
 use Rattle.station.proofs.parts.Ledger.entries.Given as goal
 
-abbrev pub invariant-loop-gauge : goal.invariant-loop-gauge
-invariant-loop-gauge l =
-    (l.entries.count ≤ l.gauge)
-    × (l.entries.count ≡ length (heard_of l.self.gauges l.gauge))
-    × (take (5 * l.entries.count) l.entries.bytes ≡ listing l.self.gauges (heard_of l.self.gauges l.gauge))
+abbrev pub invariant-loop-number : goal.invariant-loop-number
+invariant-loop-number l =
+    (length l.entries.items ≤ l.number) × (l.entries.items ≡ map (entry l.self.gauges) (heard_of l.self.gauges l.number))
