@@ -1,6 +1,5 @@
 -- What an opening comes to, from what its tests found.
 use Rattle.std.proofs.Common.{◌≡◌, ℕ, ◌+◌, ◌-◌, ◌≤◌, Bool, true, false, cond, not, ◌&&◌, ◌||◌, eqb, leb, List, [], ◌∷◌, ◌++◌, length, take, drop, set, is_some, Some, None, Option, unwrap_or, sym, refl, ap, ◌∙◌, ap₂, arith, length-append, length-drop, length-take, length-take-le, eqb-true}
-use native.Mathlib.Nat.{sub-zero}
 use Rattle.seal.specs.Wrapping.{cleared}
 use Rattle.block.specs.Num.{num}
 use Rattle.mode.specs.Sealing.{opened_by, pair}
@@ -15,12 +14,13 @@ use Rattle.block.specs.Bytes.{spelled}
 use Rattle.std.proofs.lemmas.Bool.{cond-true}
 use Rattle.std.proofs.lemmas.Bool.Decides.{nat_tests}
 use Rattle.telegram.specs.declared.parts.Places.{Places}
+use Rattle.telegram.specs.declared.kind.Kind.{Kind}
+use Rattle.telegram.specs.declared.kind.Kind.TheVariants.{Measurement, Key}
 use Rattle.station.specs.Calls.{Answer, Opened, Ordered, Refused}
 use Rattle.station.specs.State.{State, Waiting, wait}
-use Rattle.station.specs.Steps.{KeyOpening, Opening, accepting, opened_at, opening, order_of, waiting_of, with_message}
-use Rattle.station.specs.Tests.{Test, admission, heading, message, past}
-use Rattle.station.specs.Use.{Use, counted, use_of}
-use Rattle.station.specs.declared.parts.Ledger.{Ledger}
+use Rattle.station.specs.Steps.{KeyOpening, Opening, accepting, opened_at, opening, order_of, refusing, with_message}
+use Rattle.station.specs.Tests.{Test, admission, heading, message, open_key_tests, open_tests, opening_tests, past}
+use Rattle.station.specs.Use.{Use, counted}
 
 -- ---- tests of which the first that refuses is known, or that none does
 
@@ -34,39 +34,50 @@ past_passed [] r a e = refl
 past_passed ((m, true) ∷ ts) r a e = let z : ◌≡◌ {A = ℕ} 0 1 = cc in absurd (omega arith)
 past_passed ((m, false) ∷ ts) r a e = past_passed ts r a e
 
+-- ---- the tests of an opening, of which the last is that of the message
+
+module _ (s : State) (wanted : Kind) (b : List ℕ) where
+  module _ (n : ℕ) (stops : past (admission s wanted b) Some None ≡ Some n) where
+    pub stopped : past (opening_tests s wanted b) Some None ≡ Some n
+    stopped = past_stopped (admission s wanted b) n Some (cond (not (is_some (message s b))) (Some 14) None) stops
+
+    pub stays : s ≡ past (opening_tests s wanted b) (refusing s b) (accepting s.pending s b)
+    stays = sym (past_stopped (admission s wanted b) n (λ _. s) (cond (not (is_some (message s b))) (opening s b) (accepting s.pending s b)) stops)
+
+  module _ (passes : past (admission s wanted b) Some None ≡ None) where
+    pub mismatched : message s b ≡ None → past (opening_tests s wanted b) Some None ≡ Some 14
+    mismatched none = past_passed (admission s wanted b) Some _ passes ∙ ap (λ o. cond (not (is_some o)) (Some 14) None) none
+
+    pub counts : message s b ≡ None → opening s b ≡ past (opening_tests s wanted b) (refusing s b) (accepting s.pending s b)
+    counts none = sym (past_passed (admission s wanted b) (λ _. s) _ passes ∙ ap (λ o. cond (not (is_some o)) (opening s b) (accepting s.pending s b)) none)
+
+    module _ (m : List ℕ) (some : message s b ≡ Some m) where
+      pub passed : past (opening_tests s wanted b) Some None ≡ None
+      passed = past_passed (admission s wanted b) Some _ passes ∙ ap (λ o. cond (not (is_some o)) (Some 14) None) some
+
+      pub accepts : accepting s.pending s b ≡ past (opening_tests s wanted b) (refusing s b) (accepting s.pending s b)
+      accepts = sym (past_passed (admission s wanted b) (λ _. s) _ passes ∙ ap (λ o. cond (not (is_some o)) (opening s b) (accepting s.pending s b)) some)
+
 -- ---- a measurement
 
-module _ (s : State) (b : List ℕ) where
-  pub stopped : {a : Answer} {b' : List ℕ} {t : State} (n : ℕ) → past (admission s false b) Some None ≡ Some n
-      → a ≡ Refused n → b' ≡ cleared b → t ≡ s → Opening s b a b' t
-  stopped n stops answers leaves moves =
+module _ (s : State) (b : List ℕ) {a : Answer} {b' : List ℕ} {t : State}
+    (moves : t ≡ past (opening_tests s Measurement b) (refusing s b) (accepting s.pending s b)) where
+  pub refused : (n : ℕ) → past (opening_tests s Measurement b) Some None ≡ Some n → a ≡ Refused n → b' ≡ cleared b → Opening s b a b' t
+  refused n stops answers leaves =
       record {
-        answers = answers ∙ sym (past_stopped (admission s false b) n Refused (cond (not (is_some (message s b))) (Refused 14) (opened_at s b)) stops);
-        leaves =
-            leaves
-            ∙ sym (past_stopped (admission s false b) n (λ _. cleared b) (cond (not (is_some (message s b))) (cleared b) (with_message (unwrap_or (message s b) []) b)) stops);
-        moves = moves ∙ sym (past_stopped (admission s false b) n (λ _. s) (cond (not (is_some (message s b))) (opening s b) (accepting s.pending s b)) stops);
+        answers = answers ∙ sym (past_stopped (open_tests s b) n Refused _ stops);
+        leaves = leaves ∙ sym (past_stopped (open_tests s b) n (λ _. cleared b) _ stops);
+        moves = moves;
       }
 
-  module _ (passes : past (admission s false b) Some None ≡ None) where
-    comes : (o : Option (List ℕ)) → message s b ≡ o → {a : Answer} {b' : List ℕ} {t : State}
-        → a ≡ cond (not (is_some o)) (Refused 14) (opened_at s b)
-        → b' ≡ cond (not (is_some o)) (cleared b) (with_message (unwrap_or o []) b)
-        → t ≡ cond (not (is_some o)) (opening s b) (accepting s.pending s b) → Opening s b a b' t
-    comes o is answers leaves moves =
-        record {
-          answers = answers ∙ sym (past_passed (admission s false b) Refused _ passes ∙ ap (λ o. cond (not (is_some o)) (Refused 14) (opened_at s b)) is);
-          leaves = leaves ∙ sym (past_passed (admission s false b) (λ _. cleared b) _ passes ∙ ap (λ o. cond (not (is_some o)) (cleared b) (with_message (unwrap_or o []) b)) is);
-          moves = moves ∙ sym (past_passed (admission s false b) (λ _. s) _ passes ∙ ap (λ o. cond (not (is_some o)) (opening s b) (accepting s.pending s b)) is);
-        }
-
-    pub mismatched : {a : Answer} {b' : List ℕ} {t : State} → message s b ≡ None
-        → a ≡ Refused 14 → b' ≡ cleared b → t ≡ opening s b → Opening s b a b' t
-    mismatched none answers leaves moves = comes None none answers leaves moves
-
-    pub accepted : {a : Answer} {b' : List ℕ} {t : State} (m : List ℕ) → message s b ≡ Some m
-        → a ≡ opened_at s b → b' ≡ with_message m b → t ≡ accepting s.pending s b → Opening s b a b' t
-    accepted m some answers leaves moves = comes (Some m) some answers leaves moves
+  pub accepted : (m : List ℕ) → past (opening_tests s Measurement b) Some None ≡ None → message s b ≡ Some m
+      → a ≡ opened_at s b → b' ≡ with_message m b → Opening s b a b' t
+  accepted m passes some answers leaves =
+      record {
+        answers = answers ∙ sym (past_passed (open_tests s b) Refused _ passes);
+        leaves = leaves ∙ sym (past_passed (open_tests s b) (λ _. cleared b) _ passes ∙ ap (λ o. with_message (unwrap_or o []) b) some);
+        moves = moves;
+      }
 
 -- ---- a key
 
@@ -85,53 +96,67 @@ second_false true true e = refl
 second_false true false e = sym e
 second_false false y e = let z : ◌≡◌ {A = ℕ} 0 1 = cc in absurd (omega arith)
 
-module _ (s : State) (b : List ℕ) where
-  pub key_stopped : {a : Answer} {b' : List ℕ} {t : State} (n : ℕ) → past (admission s true b) Some None ≡ Some n
-      → a ≡ Refused n → b' ≡ cleared b → t ≡ s → KeyOpening s b a b' t
-  key_stopped n stops answers leaves moves =
+-- the state with another change that waits
+abbrev pub with_pending : Option Waiting → State → State
+with_pending p s =
+    record {
+      scheme = s.scheme;
+      key = s.key;
+      hash_key = s.hash_key;
+      started = s.started;
+      own = s.own;
+      given = s.given;
+      gauges = s.gauges;
+      used = s.used;
+      pending = p;
+    }
+
+-- the own gauge stays
+pub own_stays : (s : State) (b : List ℕ) (t : State) → t ≡ past (opening_tests s Key b) (refusing s b) (accepting s.pending s b)
+    → past (opening_tests s Key b) Some None ≡ None → t.own ≡ s.own
+own_stays s b t moves passes = ap (λ (t : State). t.own) (moves ∙ past_passed (open_key_tests s b) (refusing s b) _ passes)
+
+module _ (s : State) (b : List ℕ) {a : Answer} {b' : List ℕ} (t : State)
+    (moves : t ≡ past (opening_tests s Key b) (refusing s b) (accepting s.pending s b)) where
+  pub key_refused : (n : ℕ) → past (opening_tests s Key b) Some None ≡ Some n → a ≡ Refused n → b' ≡ cleared b → KeyOpening s b a b' t
+  key_refused n stops answers leaves =
       record {
-        answers = answers ∙ sym (past_stopped (admission s true b) n Refused (cond (not (is_some (message s b))) (Refused 14) (Ordered (order_of s b))) stops);
+        answers = answers ∙ sym (past_stopped (open_key_tests s b) n Refused _ stops);
         leaves = leaves;
-        moves = moves ∙ sym (past_stopped (admission s true b) n (λ _. s) (cond (not (is_some (message s b))) (opening s b) (accepting (Some (waiting_of s b)) s b)) stops);
+        moves = moves ∙ past_stopped (open_key_tests s b) n (refusing s b) _ stops ∙ sym (past_stopped (open_key_tests s b) n (refusing s b) _ stops);
       }
 
-  module _ (passes : past (admission s true b) Some None ≡ None) where
-    -- the message is as long as a key is
-    pub key_long : length (parts b).ciphertext ≡ s.scheme.key_len
-    key_long =
-        eqb-true (length (parts b).ciphertext) s.scheme.key_len
-        (second_false (eqb (heading s b).kind 1) (eqb (length (parts b).ciphertext) s.scheme.key_len) (all_false (admission s true b) passes).1.1.1.0)
-
-    pub key_mismatched : {a : Answer} {b' : List ℕ} {t : State} → message s b ≡ None
-        → a ≡ Refused 14 → b' ≡ cleared b → t ≡ opening s b → KeyOpening s b a b' t
-    key_mismatched none answers leaves moves =
+  module _ (passes : past (opening_tests s Key b) Some None ≡ None) where
+    pub key_accepted : (m : List ℕ) → message s b ≡ Some m → a ≡ Ordered (order_of s b) → b' ≡ cleared b
+        → (w : Waiting) → w ≡ wait (heading s b).gauge (heading s b).serial m → KeyOpening s b a b' (with_pending (Some w) t)
+    key_accepted m some answers leaves w waits =
         record {
-          answers = answers ∙ sym (past_passed (admission s true b) Refused _ passes ∙ ap (λ o. cond (not (is_some o)) (Refused 14) (Ordered (order_of s b))) none);
+          answers = answers ∙ sym (past_passed (open_key_tests s b) Refused _ passes);
           leaves = leaves;
-          moves = moves ∙ sym (past_passed (admission s true b) (λ _. s) _ passes ∙ ap (λ o. cond (not (is_some o)) (opening s b) (accepting (Some (wait (heading s b).gauge (heading s b).serial (unwrap_or o []))) s b)) none);
+          moves =
+              ap (with_pending (Some w)) (moves ∙ past_passed (open_key_tests s b) (refusing s b) _ passes)
+              ∙ ap (λ w. accepting (Some w) s b) (waits ∙ sym (ap (λ o. wait (heading s b).gauge (heading s b).serial (unwrap_or o [])) some))
+              ∙ sym (past_passed (open_key_tests s b) (refusing s b) _ passes);
         }
 
-    pub key_accepted : {a : Answer} {b' : List ℕ} {t : State} (m : List ℕ) → message s b ≡ Some m
-        → a ≡ Ordered (order_of s b) → b' ≡ cleared b → t ≡ accepting (Some (wait (heading s b).gauge (heading s b).serial m)) s b → KeyOpening s b a b' t
-    key_accepted m some answers leaves moves =
-        record {
-          answers = answers ∙ sym (past_passed (admission s true b) Refused _ passes ∙ ap (λ o. cond (not (is_some o)) (Refused 14) (Ordered (order_of s b))) some);
-          leaves = leaves;
-          moves = moves ∙ sym (past_passed (admission s true b) (λ _. s) _ passes ∙ ap (λ o. cond (not (is_some o)) (opening s b) (accepting (Some (wait (heading s b).gauge (heading s b).serial (unwrap_or o []))) s b)) some);
-        }
+-- the message is as long as a key is
+pub key_long : (s : State) (b : List ℕ) → past (opening_tests s Key b) Some None ≡ None → length (parts b).ciphertext ≡ s.scheme.key_len
+key_long s b passes =
+    eqb-true (length (parts b).ciphertext) s.scheme.key_len
+    (second_false (eqb (heading s b).kind 1) (eqb (length (parts b).ciphertext) s.scheme.key_len) (all_false (opening_tests s Key b) passes).1.1.1.0)
 
 -- ---- a part that was opened, as the part of a telegram that it is
 
 module _ (s : State) (b : List ℕ) (i : Incoming) (told : Told b i) where
-  pub part_message : (r : Bool) (y : List ℕ)
-      → cond r (Some y) None ≡ part_opened i.places.ciphertext.start i.places.ciphertext.end (opened_by s.hash_key (s.scheme.enc s.key) (s.scheme.dec s.key) (Some (take (i.header_len - 0) i.header)) (pair (num i.tag) (between i.places.ciphertext.start i.places.ciphertext.end b))) b
+  pub part_message : (r : Bool) (h y : List ℕ) → h ≡ i.header.items
+      → cond r (Some y) None ≡ part_opened i.places.ciphertext.start i.places.ciphertext.end (opened_by s.hash_key (s.scheme.enc s.key) (s.scheme.dec s.key) (Some h) (pair (num i.tag) (between i.places.ciphertext.start i.places.ciphertext.end b))) b
       → cond r (Some y) None ≡ option_map (λ m. with_message m b) (message s b)
-  part_message r y is =
+  part_message r h y header is =
       let p = i.places.ciphertext in
       let found = opened_by s.hash_key (s.scheme.enc s.key) (s.scheme.dec s.key) in
       let fits : (leb p.start p.end && leb p.end (length b)) ≡ true = grind (arith, nat_tests, told.ends, ap (λ (q : Places). q.ciphertext.start) told.places, ap (λ (q : Places). q.ciphertext.end) told.places) in
       is ∙ cond-true _ _ _ fits
-      ∙ ap₂ (λ h t. option_map (λ m. take p.start b ++ (m ++ drop p.end b)) (found (Some h) (pair t (between p.start p.end b)))) (ap (λ (n : ℕ). take n i.header) (sub-zero i.header_len) ∙ told.header) told.tag
+      ∙ ap₂ (λ h t. option_map (λ m. take p.start b ++ (m ++ drop p.end b)) (found (Some h) (pair t (between p.start p.end b)))) (header ∙ told.header) told.tag
       ∙ ap₂ (λ x (q : Places). option_map (λ m. take q.ciphertext.start b ++ (m ++ drop q.ciphertext.end b)) (found (Some (parts b).header) (pair (spelled (parts b).tag) x))) told.there told.places
 
 pub no_message : (o : Option (List ℕ)) (f : List ℕ → List ℕ) → None ≡ option_map f o → o ≡ None
@@ -159,9 +184,9 @@ with_use s u =
       pending = s.pending;
     }
 
--- .. another last serial of a gauge, and another change that waits
-abbrev pub with_heard : State → ℕ → ℕ → Use → Option Waiting → State
-with_heard s g n u p =
+-- .. and another last serial of a gauge
+abbrev pub with_heard : State → ℕ → ℕ → Use → State
+with_heard s g n u =
     record {
       scheme = s.scheme;
       key = s.key;
@@ -171,22 +196,7 @@ with_heard s g n u p =
       given = s.given;
       gauges = set s.gauges g (record { last = n });
       used = u;
-      pending = p;
-    }
-
--- the state with what a ledger holds, but for the change that waits
-abbrev pub with_ledger : State → Ledger → Option Waiting → State
-with_ledger s l p =
-    record {
-      scheme = s.scheme;
-      key = s.key;
-      hash_key = s.hash_key;
-      started = l.started;
-      own = l.own;
-      given = l.given;
-      gauges = l.gauges;
-      used = use_of l.wear;
-      pending = p;
+      pending = s.pending;
     }
 
 module _ (s : State) (b : List ℕ) (i : Incoming) (told : Told b i) where
@@ -195,9 +205,9 @@ module _ (s : State) (b : List ℕ) (i : Incoming) (told : Told b i) where
       ap₂ (λ g n. Opened g n i.places.header i.places.ciphertext) told.gauge told.serial
       ∙ ap (λ (p : Places). Opened (heading s b).gauge (heading s b).serial p.header p.ciphertext) told.places
 
-  pub heard_told : (u : Use) → u ≡ counted (length (parts b).header) (length (parts b).ciphertext) s.used
-      → with_heard s i.gauge i.serial u s.pending ≡ accepting s.pending s b
-  heard_told u is = ap₂ (λ (g n : ℕ). with_heard s g n u s.pending) told.gauge told.serial ∙ ap (λ (v : Use). with_heard s (heading s b).gauge (heading s b).serial v s.pending) is
+  pub heard_told : (g : ℕ) (u : Use) → g ≡ i.gauge → u ≡ counted (length (parts b).header) (length (parts b).ciphertext) s.used
+      → with_heard s g i.serial u ≡ accepting s.pending s b
+  heard_told g u gauge is = ap₂ (λ (g n : ℕ). with_heard s g n u) (gauge ∙ told.gauge) told.serial ∙ ap (λ (v : Use). with_heard s (heading s b).gauge (heading s b).serial v) is
 
 -- ---- the message in its place
 
@@ -225,7 +235,7 @@ module _ (b : List ℕ) (i : Incoming) (told : Told b i) where
       ∙ take_at m (drop e b) (e - h) (long ∙ (let n : length (parts b).ciphertext ≡ e - h = omega arith in n))
 
   -- the part of any bytes that is as long as a key
-  pub part_short : (s : State) → past (admission s true b) Some None ≡ None → s.scheme.key_len ≤ 255 → (x : List ℕ)
+  pub part_short : (s : State) → past (opening_tests s Key b) Some None ≡ None → s.scheme.key_len ≤ 255 → (x : List ℕ)
       → length (between i.places.ciphertext.start i.places.ciphertext.end x) ≤ 255
   part_short s passes few x =
       let p = i.places.ciphertext in
@@ -233,14 +243,11 @@ module _ (b : List ℕ) (i : Incoming) (told : Told b i) where
       let end = ap (λ (q : Places). q.ciphertext.end) told.places in
       omega (arith, length-take (p.end - p.start) (drop p.start x), start, end, key_long s b passes)
 
-  -- what is answered and held of a key that was opened, with u its use and m its message
+  -- the order for a key that was opened, and what waits then
   pub ordered : (s : State) (own : ℕ) → own ≡ s.own → Ordered (record { own = own; sender = i.gauge; serial = i.serial }) ≡ Ordered (order_of s b)
   ordered s own is =
       ap (λ (o : ℕ). Ordered (record { own = o; sender = i.gauge; serial = i.serial })) is
       ∙ ap₂ (λ (g n : ℕ). Ordered (record { own = s.own; sender = g; serial = n })) told.gauge told.serial
 
-  pub waits : (s : State) (u : Use) (m : List ℕ) → u ≡ counted (length (parts b).header) (length (parts b).ciphertext) s.used
-      → with_heard s i.gauge i.serial u (Some (wait i.gauge i.serial m)) ≡ accepting (Some (wait (heading s b).gauge (heading s b).serial m)) s b
-  waits s u m is =
-      ap₂ (λ (g n : ℕ). with_heard s g n u (Some (wait g n m))) told.gauge told.serial
-      ∙ ap (λ (v : Use). with_heard s (heading s b).gauge (heading s b).serial v (Some (wait (heading s b).gauge (heading s b).serial m))) is
+  pub waits : (s : State) (m : List ℕ) → wait i.gauge i.serial m ≡ wait (heading s b).gauge (heading s b).serial m
+  waits s m = ap₂ (λ (g n : ℕ). wait g n m) told.gauge told.serial

@@ -1,68 +1,83 @@
--- What sealing leaves in the output, from the pieces that are put there.
-use Rattle.std.proofs.Common.{◌≡◌, ℕ, ◌+◌, ◌-◌, Bool, true, false, cond, List, ◌++◌, length, take, drop, Ok, Err, Result, sym, ap, ◌∙◌, ap₂, arith, length-append, length-drop, length-take-le}
+-- What sealing leaves in the output: the frame that was written, with the tag and the ciphertext put into it.
+use Rattle.std.proofs.Common.{◌≡◌, ℕ, ◌+◌, ◌-◌, Bool, true, false, cond, List, [], ◌∷◌, ◌++◌, length, take, drop, Ok, Err, Result, Some, sym, refl, ap, ◌∙◌, ap₂, append_assoc, arith, length-append}
 use borrow.Rule.Slice.PartMut.{put_mid}
-use Rattle.std.proofs.lemmas.List.{append-nil, drop_all, drop_at, drop-drop, take_at}
+use Rattle.std.proofs.lemmas.List.{append-nil, drop_all, drop_at, take_at}
+use Rattle.block.specs.Bytes.{bytes}
+use Rattle.mode.specs.Sealing.{Keys, Sealed, pair, sealed_with}
 use Rattle.telegram.specs.declared.fault.TelegramFault.{TelegramFault}
 use Rattle.telegram.specs.declared.fault.TelegramFault.TheVariants.{Lengths}
+use Rattle.telegram.specs.declared.parts.Places.{Places}
 use Rattle.telegram.specs.Calls.{around, framing, roomy}
-use Rattle.telegram.specs.Format.{written}
+use Rattle.telegram.specs.Format.{Parts, two, written}
 use Rattle.telegram.specs.Header.{Heading, header_bytes}
-use Rattle.station.specs.State.{State}
-use Rattle.station.specs.Steps.{Seals, telegram_of}
+use Rattle.telegram.specs.Places.{layout}
+use Rattle.station.specs.Steps.{telegram_under}
 
--- ---- the ciphertext and then the tag, put into their places of a telegram with n bytes of header and m of message
+-- ---- the bytes before the tag
 
-module _ (out text tag : List ℕ) (n m : ℕ) (long : length out ≡ 21 + n + m) (text-long : length text ≡ m) (tag_long : length tag ≡ 16) where
-  text_last : put_mid (21 + n) (21 + n + m - (21 + n)) out text ≡ take (21 + n) out ++ text
-  text_last =
-      ap (λ rest. take (21 + n) out ++ (text ++ rest)) (drop_all (21 + n + m - (21 + n)) (drop (21 + n) out) (simp length-drop (omega arith)))
-      ∙ ap (λ rest. take (21 + n) out ++ rest) (append-nil text)
+abbrev before : Parts → List ℕ
+before p = 1 ∷ (two (length p.header) ++ (p.header ++ two (length p.ciphertext)))
 
-  front_long : length (take (21 + n) out) ≡ 21 + n
-  front_long = length-take-le (21 + n) out (omega arith)
+split : (p : Parts) → written p ≡ before p ++ (p.tag ++ p.ciphertext)
+split p = ap (λ (rest : List ℕ). 1 ∷ (two (length p.header) ++ rest)) (sym (append_assoc p.header (two (length p.ciphertext)) (p.tag ++ p.ciphertext)))
 
-  -- some bytes, the tag and the ciphertext
-  both_last : put_mid (5 + n) (21 + n - (5 + n)) (put_mid (21 + n) (21 + n + m - (21 + n)) out text) tag ≡ take (5 + n) (take (21 + n) out ++ text) ++ (tag ++ text)
-  both_last =
-      ap (λ b. put_mid (5 + n) (21 + n - (5 + n)) b tag) text_last
-      ∙ ap (λ rest. take (5 + n) (take (21 + n) out ++ text) ++ (tag ++ rest))
-      (drop-drop (21 + n - (5 + n)) (5 + n) (take (21 + n) out ++ text)
-      ∙ ap (λ (k : ℕ). drop k (take (21 + n) out ++ text)) (let e : 5 + n + (21 + n - (5 + n)) ≡ 21 + n = omega arith in e)
-      ∙ drop_at (take (21 + n) out) text (21 + n) front_long)
+before_long : (p : Parts) → length (before p) ≡ 5 + length p.header
+before_long p = simp length-append (omega arith)
 
-  before_long : length (take (5 + n) (take (21 + n) out ++ text)) ≡ 5 + n
-  before_long = length-take-le (5 + n) (take (21 + n) out ++ text) (simp length-append (omega (arith, front_long)))
+-- ---- a telegram's front, which ends with the tag
 
-  module _ (b : List ℕ) (is : b ≡ put_mid (5 + n) (21 + n - (5 + n)) (put_mid (21 + n) (21 + n + m - (21 + n)) out text) tag) where
-    behind : drop (5 + n) b ≡ tag ++ text
-    behind = ap (drop (5 + n)) (is ∙ both_last) ∙ drop_at (take (5 + n) (take (21 + n) out ++ text)) (tag ++ text) (5 + n) before_long
+module _ (p : Parts) (tag_long : length p.tag ≡ 16) where
+  abbrev front : List ℕ
+  front = take (21 + length p.header) (written p)
 
-    tag_placed : take 16 (drop (5 + n) b) ≡ tag
-    tag_placed = ap (take 16) behind ∙ take_at tag text 16 tag_long
+  front_is : front ≡ before p ++ p.tag
+  front_is =
+      ap (take (21 + length p.header)) (split p ∙ sym (append_assoc (before p) p.tag p.ciphertext))
+      ∙ take_at (before p ++ p.tag) p.ciphertext (21 + length p.header) (length-append (before p) p.tag ∙ (let n = before_long p in omega arith))
 
-    text_placed : drop (21 + n) b ≡ text
-    text_placed =
-        ap (λ (k : ℕ). drop k b) (let e : 21 + n ≡ 5 + n + 16 = omega arith in e) ∙ sym (drop-drop 16 (5 + n) b) ∙ ap (drop 16) behind ∙ drop_at tag text 16 tag_long
+  pub header_there : take (3 + length p.header - 3) (drop 3 front) ≡ p.header
+  header_there =
+      ap (λ x. take (3 + length p.header - 3) (drop 3 x)) front_is
+      ∙ ap (take (3 + length p.header - 3)) (append_assoc p.header (two (length p.ciphertext)) p.tag)
+      ∙ take_at p.header (two (length p.ciphertext) ++ p.tag) (3 + length p.header - 3) (omega arith)
 
-    -- a frame written around them
-    framed : (h : Heading) (b' : List ℕ) → length (header_bytes h) ≡ n → framing h b ≡ Ok b'
-        → b' ≡ written (record { header = header_bytes h; tag = tag; ciphertext = text })
-    framed h b' size frames =
-        only (roomy (length (header_bytes h)) (length b)) (written (around h b)) b' frames
-        ∙ ap (λ (k : ℕ). written (record { header = header_bytes h; tag = take 16 (drop (5 + k) b); ciphertext = drop (21 + k) b })) size
-        ∙ ap₂ (λ t x. written (record { header = header_bytes h; tag = t; ciphertext = x })) tag_placed text_placed
-      where
-        only : (fits : Bool) (x y : List ℕ) → ◌≡◌ {A = Result (List ℕ) TelegramFault} (cond fits (Ok x) (Err Lengths)) (Ok y) → y ≡ x
-        only true x y e = cc
-        only false x y e = let z : ◌≡◌ {A = ℕ} 0 1 = cc in absurd (omega arith)
+  -- another tag put into it, and another ciphertext behind it
+  pub replaced : (tag text : List ℕ) → length text ≡ length p.ciphertext
+      → put_mid (5 + length p.header) (21 + length p.header - (5 + length p.header)) front tag ++ text ≡ written (record { header = p.header; tag = tag; ciphertext = text })
+  replaced tag text long =
+      let n = 5 + length p.header in
+      let k = 21 + length p.header - n in
+      let behind : drop n front ≡ p.tag = ap (drop n) front_is ∙ drop_at (before p) p.tag n (before_long p) in
+      let none : drop k (drop n front) ≡ [] = ap (drop k) behind ∙ drop_all k p.tag (omega arith) in
+      let kept : take n front ≡ before p = ap (take n) front_is ∙ take_at (before p) p.tag n (before_long p) in
+      ap₂ (λ x y. (x ++ (tag ++ y)) ++ text) kept none
+      ∙ ap (λ y. (before p ++ y) ++ text) (append-nil tag)
+      ∙ append_assoc (before p) tag text
+      ∙ ap (λ (m : ℕ). (1 ∷ (two (length p.header) ++ (p.header ++ two m))) ++ (tag ++ text)) (sym long)
+      ∙ sym (split (record { header = p.header; tag = tag; ciphertext = text }))
 
--- .. of what was sealed
-pub telegram_written : (s : State) (h : Heading) (message out z t x b b' : List ℕ) (n m : ℕ)
-    → length out ≡ 21 + n + m → length x ≡ m → length t ≡ 16 → length (header_bytes h) ≡ n
-    → z ≡ message → Seals s h z t x
-    → b ≡ put_mid (5 + n) (21 + n - (5 + n)) (put_mid (21 + n) (21 + n + m - (21 + n)) out x) t
-    → framing h b ≡ Ok b' → b' ≡ telegram_of s h message
-telegram_written s h message out z t x b b' n m long x-long t-long size same seals is frames =
-    framed out x t n m long x-long t-long b is h b' size frames
-    ∙ ap₂ (λ a c. written (record { header = header_bytes h; tag = a; ciphertext = c })) seals.tag seals.text
-    ∙ ap (telegram_of s h) same
+-- ---- a frame that was written
+
+framed : (h : Heading) (out b : List ℕ) → framing h out ≡ Ok b → b ≡ written (around h out)
+framed h out b frames = only (roomy (length (header_bytes h)) (length out)) (written (around h out)) b frames
+  where
+    only : (fits : Bool) (x y : List ℕ) → ◌≡◌ {A = Result (List ℕ) TelegramFault} (cond fits (Ok x) (Err Lengths)) (Ok y) → y ≡ x
+    only true x y e = cc
+    only false x y e = let z : ◌≡◌ {A = ℕ} 0 1 = cc in absurd (omega arith)
+
+-- what was sealed in its place
+pub telegram_written : (k : Keys) (h : Heading) (message out b : List ℕ) (at : Places) (t : ℕ) (front text : List ℕ)
+    → length (around h out).tag ≡ 16 → length text ≡ length (around h out).ciphertext
+    → framing h out ≡ Ok b → at ≡ layout (length (header_bytes h)) (length (around h out).ciphertext)
+    → front ≡ take at.tag.end b
+    → pair t text ≡ sealed_with k (Some (take (at.header.end - at.header.start) (drop at.header.start front))) message
+    → put_mid at.tag.start (at.tag.end - at.tag.start) front (bytes 16 t) ++ text ≡ telegram_under k h message
+telegram_written k h message out b at t front text tag_long text_long frames lies is seals =
+    let p = around h out in
+    let same : front ≡ take (21 + length p.header) (written p) = is ∙ ap₂ (λ (q : Places) x. take q.tag.end x) lies (framed h out b frames) in
+    let sealed : pair t text ≡ sealed_with k (Some p.header) message =
+    seals ∙ ap₂ (λ (q : Places) x. sealed_with k (Some (take (q.header.end - q.header.start) (drop q.header.start x))) message) lies same
+    ∙ ap (λ x. sealed_with k (Some x) message) (header_there p tag_long) in
+    ap₂ (λ (q : Places) x. put_mid q.tag.start (q.tag.end - q.tag.start) x (bytes 16 t) ++ text) lies same
+    ∙ replaced p tag_long (bytes 16 t) text text_long
+    ∙ ap (λ (s : Sealed). written (record { header = p.header; tag = bytes 16 s.tag; ciphertext = s.text })) sealed

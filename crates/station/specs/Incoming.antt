@@ -1,5 +1,5 @@
 -- What is told of a telegram before it is opened.
-use Rattle.std.specs.Prelude.{◌≡◌, ℕ, ◌≤◌, true, false, List, length, take}
+use Rattle.std.specs.Prelude.{◌≡◌, ℕ, true, false, List, length}
 use Rattle.block.specs.Bytes.{spelled}
 use Rattle.block.specs.Num.{num}
 use Rattle.telegram.specs.Format.{lengths_fit, other_version, parts}
@@ -8,6 +8,7 @@ use Rattle.std.specs.List.{between}
 use Rattle.telegram.specs.Places.{layout}
 use Rattle.telegram.specs.declared.fault.TelegramFault.{TelegramFault}
 use Rattle.telegram.specs.declared.fault.TelegramFault.TheVariants.{Version, Lengths}
+use Rattle.telegram.specs.Kind.{kind_byte}
 use Rattle.station.specs.declared.incoming.Incoming.{Incoming}
 
 pub record Told (b : List ℕ) (i : Incoming) : Type 0 where
@@ -15,17 +16,15 @@ pub record Told (b : List ℕ) (i : Incoming) : Type 0 where
   pub lengths : lengths_fit b ≡ true
   pub gauge : i.gauge ≡ (headed (parts b).header).gauge
   pub serial : i.serial ≡ (headed (parts b).header).serial
-  pub kind : i.kind.0 ≡ (headed (parts b).header).kind
-  pub header : take i.header_len i.header ≡ (parts b).header
-  pub header_len : i.header_len ≡ length (parts b).header
-  pub message_len : i.message_len ≡ length (parts b).ciphertext
+  pub kind : kind_byte i.kind ≡ (headed (parts b).header).kind
+  pub header : i.header.items ≡ (parts b).header
+  pub header_len : i.sizes.header ≡ length (parts b).header
+  pub message_len : i.sizes.message ≡ length (parts b).ciphertext
   pub tag : num i.tag ≡ spelled (parts b).tag
   pub places : i.places ≡ layout (length (parts b).header) (length (parts b).ciphertext)
   -- the ciphertext lies at its place, which ends the buffer
   pub there : between i.places.ciphertext.start i.places.ciphertext.end b ≡ (parts b).ciphertext
   pub ends : i.places.ciphertext.end ≡ length b
-  pub header_short : length (parts b).header ≤ 1024
-  pub message_short : length (parts b).ciphertext ≤ 4096
 
 abbrev pub Untold : List ℕ → TelegramFault → Type 0
 Untold b Version = other_version b ≡ true

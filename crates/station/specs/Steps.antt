@@ -2,8 +2,7 @@
 use Rattle.std.specs.Prelude.{◌≡◌, ℕ, ◌+◌, Bool, true, false, cond, not, ◌||◌, List, [], ◌++◌, length, take, drop, Some, None, Ok, Err, Option, Result, ◌==◌, nat_lt, slice_set}
 use Rattle.std.specs.Option.{unwrap_or}
 use Rattle.block.specs.Bytes.{bytes}
-use Rattle.cipher.specs.Scheme.{Scheme}
-use Rattle.mode.specs.Sealing.{Sealed, sealed_by}
+use Rattle.mode.specs.Sealing.{Keys, sealed_with}
 use Rattle.seal.specs.Wrapping.{cleared}
 use Rattle.telegram.specs.Format.{parts, written}
 use Rattle.telegram.specs.Places.{layout}
@@ -21,21 +20,6 @@ answered f (Ok x) = f x
 answered f (Err fault) = Refused (refusal fault)
 
 -- ---- start
-
--- a station that is not started, from a cipher and a multiplier as they are
-abbrev pub unstarted : Scheme → List ℕ → ℕ → State
-unstarted scheme k l =
-    record {
-      scheme = scheme;
-      key = k;
-      hash_key = l;
-      started = false;
-      own = 0;
-      given = 0;
-      gauges = none_heard;
-      used = unused 4;
-      pending = None;
-    }
 
 -- the key k comes into force: nothing is counted, no gauge has been heard, and own serials begin at 1
 abbrev pub in_force : State → ℕ → ℕ → List ℕ → State
@@ -62,19 +46,14 @@ pub record Starting (s : State) (own allowance : ℕ) (k : List ℕ) (a : Answer
 abbrev pub next_header : State → ℕ → List ℕ → Heading
 next_header s kind note = record { gauge = s.own; serial = s.given + 1; kind = kind; note = note }
 
-abbrev pub sealed_text : State → List ℕ → List ℕ → Sealed
-sealed_text s header message = sealed_by s.hash_key (s.scheme.enc s.key) (Some header) message
-
--- the telegram that a message is sealed to under a header
-abbrev pub telegram_of : State → Heading → List ℕ → List ℕ
-telegram_of s h message =
-    let sealed = sealed_text s (header_bytes h) message in
+-- the telegram that a message is sealed to under keys and a header
+abbrev pub telegram_under : Keys → Heading → List ℕ → List ℕ
+telegram_under k h message =
+    let sealed = sealed_with k (Some (header_bytes h)) message in
     written (record { header = header_bytes h; tag = bytes 16 sealed.tag; ciphertext = sealed.text })
 
--- a message was sealed under a header, to this tag and this text
-pub record Seals (s : State) (h : Heading) (message t x : List ℕ) : Type 0 where
-  pub tag : t ≡ bytes 16 (sealed_text s (header_bytes h) message).tag
-  pub text : x ≡ (sealed_text s (header_bytes h) message).text
+abbrev pub telegram_of : State → Heading → List ℕ → List ℕ
+telegram_of s = telegram_under (record { scheme = s.scheme; key = s.key; hash_key = s.hash_key })
 
 -- a note or a message that is too long
 abbrev pub out_of_size : List ℕ → List ℕ → Bool

@@ -1,9 +1,11 @@
 -- The tests that each call runs, by their numbers and in their order; a test refuses where its row holds.
-use Rattle.std.specs.Prelude.{ℕ, ◌+◌, ◌-◌, ◌^◌, Bool, true, false, cond, not, ◌&&◌, ◌||◌, List, [], ◌∷◌, length, is_some, Some, None, Option, ◌==◌, nat_le, nat_lt}
+use Rattle.std.specs.Prelude.{ℕ, ◌+◌, ◌-◌, ◌^◌, Bool, true, false, cond, not, ◌&&◌, ◌||◌, List, [], ◌∷◌, ◌++◌, length, is_some, Some, None, Option, ◌==◌, nat_le, nat_lt}
 use Rattle.block.specs.Bytes.{spelled}
 use Rattle.mode.specs.Sealing.{opened_by, pair}
 use Rattle.telegram.specs.Format.{lengths_fit, other_version, parts}
 use Rattle.telegram.specs.Header.{Heading, headed}
+use Rattle.telegram.specs.declared.kind.Kind.{Kind}
+use Rattle.telegram.specs.declared.kind.Kind.TheVariants.{Measurement, Key, Other}
 use Rattle.station.specs.Calls.{Order}
 use Rattle.station.specs.State.{State, Waiting, last_of}
 use Rattle.station.specs.Use.{passes}
@@ -20,6 +22,22 @@ past (t ∷ ts) refused accepted = cond t.1 (refused t.0) (past ts refused accep
 -- a gauge that is none of the sixteen, or the own one
 abbrev pub unknown : ℕ → ℕ → Bool
 unknown own gauge = nat_lt 15 gauge || gauge == own
+
+-- a telegram of another kind than is wanted, or a key that is not as long as a key is
+abbrev pub unwanted : ℕ → Kind → List ℕ → Bool
+unwanted key_len Measurement b = not ((headed (parts b).header).kind == 0)
+unwanted key_len Key b = not ((headed (parts b).header).kind == 1) || not (length (parts b).ciphertext == key_len)
+unwanted key_len (Other other) b = not ((headed (parts b).header).kind == other.byte)
+
+abbrev pub is_key : Kind → Bool
+is_key Measurement = false
+is_key Key = true
+is_key (Other other) = false
+
+-- an order for the change that waits, of a station with this own gauge
+abbrev pub matches : ℕ → Order → Option Waiting → Bool
+matches own o None = false
+matches own o (Some w) = o.own == own && (o.sender == w.sender && o.serial == w.serial)
 
 module _ (s : State) where
   -- ---- start
@@ -54,36 +72,31 @@ module _ (s : State) where
   abbrev pub worn : List ℕ → Bool
   worn b = passes (length (parts b).header) (length (parts b).ciphertext) s.used
 
-  -- a telegram of another kind than is wanted: a key, which is as long as a key is, or else a measurement
-  abbrev pub unwanted : Bool → List ℕ → Bool
-  unwanted key b =
-      cond key (not ((heading b).kind == 1) || not (length (parts b).ciphertext == s.scheme.key_len)) (not ((heading b).kind == 0))
-
-  -- the tests before the last
-  abbrev pub admission : Bool → List ℕ → List Test
-  admission key b =
-      (1, not s.started) ∷ (6, other_version b) ∷ (7, not (lengths_fit b)) ∷ (8, unwanted key b)
-      ∷ (9, unknown s.own (heading b).gauge) ∷ (10, key && is_some s.pending) ∷ (12, stale b) ∷ (13, worn b)
+  -- the tests before the last, where a kind is wanted
+  abbrev pub admission : Kind → List ℕ → List Test
+  admission wanted b =
+      (1, not s.started) ∷ (6, other_version b) ∷ (7, not (lengths_fit b)) ∷ (8, unwanted s.scheme.key_len wanted b)
+      ∷ (9, unknown s.own (heading b).gauge) ∷ (10, is_key wanted && is_some s.pending) ∷ (12, stale b) ∷ (13, worn b)
       ∷ []
+
+  -- .. and all of them
+  abbrev pub opening_tests : Kind → List ℕ → List Test
+  opening_tests wanted b = admission wanted b ++ (14, not (is_some (message b))) ∷ []
 
   abbrev pub open_tests : List ℕ → List Test
   open_tests b =
-      (1, not s.started) ∷ (6, other_version b) ∷ (7, not (lengths_fit b)) ∷ (8, unwanted false b)
+      (1, not s.started) ∷ (6, other_version b) ∷ (7, not (lengths_fit b)) ∷ (8, unwanted s.scheme.key_len Measurement b)
       ∷ (9, unknown s.own (heading b).gauge) ∷ (12, stale b) ∷ (13, worn b) ∷ (14, not (is_some (message b)))
       ∷ []
 
   abbrev pub open_key_tests : List ℕ → List Test
   open_key_tests b =
-      (1, not s.started) ∷ (6, other_version b) ∷ (7, not (lengths_fit b)) ∷ (8, unwanted true b)
+      (1, not s.started) ∷ (6, other_version b) ∷ (7, not (lengths_fit b)) ∷ (8, unwanted s.scheme.key_len Key b)
       ∷ (9, unknown s.own (heading b).gauge) ∷ (10, is_some s.pending) ∷ (12, stale b) ∷ (13, worn b)
       ∷ (14, not (is_some (message b)))
       ∷ []
 
-  -- ---- an order, for the change that waits
-
-  abbrev pub matches : Order → Option Waiting → Bool
-  matches o None = false
-  matches o (Some w) = o.own == s.own && (o.sender == w.sender && o.serial == w.serial)
+  -- ---- an order
 
   abbrev pub order_tests : Order → List Test
-  order_tests o = (1, not s.started) ∷ (15, not (matches o s.pending)) ∷ []
+  order_tests o = (1, not s.started) ∷ (15, not (matches s.own o s.pending)) ∷ []

@@ -1,50 +1,56 @@
 // The tests that both openings run on what is told of a telegram.
-ghost use Rattle.std.specs.Prelude.{◌≡◌, ◌<◌, ◌&&◌, is_some, nat_le};
+ghost use Rattle.std.specs.Prelude.{◌≡◌, true, false, ◌&&◌, is_some, nat_le, MatchResult};
 ghost use Rattle.station.specs.Admission.{heard};
 ghost use Rattle.station.specs.State.{last_of, waiting};
-ghost use Rattle.station.specs.Tests.{unknown};
+ghost use Rattle.station.specs.Tests.{is_key, unknown};
+ghost use Rattle.station.specs.declared.fault.StationFault.TheVariants.{Gauge as OtherGauge};
 ghost use Rattle.std.specs.Option.{option_map};
 
+use crate::fault::StationFault;
+use crate::gauge_number::GaugeNumber;
 use crate::incoming::Incoming;
 use crate::parts::{Gauge, Ledger};
 use crate::starting::MAX_GAUGE;
 use crate::wear::Wear;
+use telegram::kind::Kind;
 
-/// A telegram that may be opened, and the wear with it counted.
-#[derive(Clone, Copy)]
+/// A telegram that may be opened, who sent it, and the wear with it counted.
+#[derive(Drop)]
 pub(crate) struct Admission {
     pub(crate) incoming: Incoming,
+    pub(crate) sender: GaugeNumber,
     pub(crate) wear: Wear,
 }
 
 impl Ledger {
-    /// Whether the gauge is none of the sixteen, or the own one.
-    pub(crate) fn is_unknown(&self, gauge: u8) -> bool
-        ensures { result ≡ unknown self.now.own gauge }
+    /// The number of the gauge that sent a telegram; refused by `Gauge` where it is none of the sixteen, or the own one.
+    pub(crate) fn sender(&self, gauge: u8) -> Result<GaugeNumber, StationFault>
+        ensures { MatchResult result (λ sender. (unknown self.now.own gauge ≡ false) × (sender.number ≡ gauge)) (λ fault. (unknown self.now.own gauge ≡ true) × (fault ≡ OtherGauge)) }
     {
-        gauge > MAX_GAUGE || gauge == self.own
+        if gauge > MAX_GAUGE || gauge == self.own {
+            return Err(StationFault::Gauge);
+        }
+        Ok(GaugeNumber { number: gauge })
     }
 
     /// Whether a key is wanted, while one waits already.
-    pub(crate) fn is_barred(&self, key: bool) -> bool
-        ensures { result ≡ (key && is_some (option_map waiting self.now.pending)) }
+    pub(crate) fn is_barred(&self, wanted: Kind) -> bool
+        ensures { result ≡ (is_key wanted && is_some (option_map waiting self.now.pending)) }
     {
-        key && self.pending.is_some()
+        wanted == Kind::Key && self.pending.is_some()
     }
 
     /// Whether the serial is not above the gauge's last.
-    pub(crate) fn is_stale(&self, gauge: u8, serial: u32) -> bool
-        requires { gauge < 16 }
-        ensures { result ≡ nat_le serial (last_of gauge self.now.gauges) }
+    pub(crate) fn is_stale(&self, gauge: GaugeNumber, serial: u32) -> bool
+        ensures { result ≡ nat_le serial (last_of gauge.number self.now.gauges) }
     {
-        serial <= self.gauges[gauge as usize].last
+        serial <= self.gauges[usize::from(gauge.number)].last
     }
 
     /// Hears a serial from a gauge.
-    pub(crate) fn hear(&mut self, gauge: u8, serial: u32)
-        requires { gauge < 16 }
-        ensures { self.new ≡ heard gauge serial self.old }
+    pub(crate) fn hear(&mut self, gauge: GaugeNumber, serial: u32)
+        ensures { self.new ≡ heard gauge.number serial self.old }
     {
-        self.gauges[gauge as usize] = Gauge { last: serial };
+        self.gauges[usize::from(gauge.number)] = Gauge { last: serial };
     }
 }

@@ -2,13 +2,14 @@
 ghost use Rattle.station.specs.Calls.{Done};
 ghost use Rattle.station.specs.Orders.{order_of, returned};
 ghost use Rattle.std.specs.Prelude.{◌≡◌, IfErr};
-ghost use Rattle.station.specs.State.{view};
+ghost use Rattle.std.specs.Option.{option_map};
+ghost use Rattle.station.specs.State.{view, waiting};
 ghost use Rattle.station.specs.Steps.{Declining};
 ghost use Rattle.station.specs.Tests.{matches};
 
 use crate::fault::StationFault;
 use crate::order::ChangeOrder;
-use crate::parts::Station;
+use crate::parts::{Ledger, Station};
 use cipher::Cipher;
 use multiplier::Multiplier;
 
@@ -18,21 +19,18 @@ pub struct OrderBack {
     pub fault: StationFault,
 }
 
-impl<C: Cipher, M: Multiplier> Station<C, M> {
+impl Ledger {
     /// Whether the order is for the change that waits.
     fn matches(&self, order: &ChangeOrder) -> bool
-        ensures { result ≡ matches (view C.Cipher M.Multiplier self.now) (order_of order.now) (view C.Cipher M.Multiplier self.now).pending }
+        ensures { result ≡ matches self.now.own (order_of order.now) (option_map waiting self.now.pending) }
     {
-        match &self.ledger.pending {
-            Some(change) => {
-                order.own == self.ledger.own
-                    && order.sender == change.sender
-                    && order.serial == change.serial
-            }
-            None => false,
-        }
+        self.pending.as_ref().is_some_and(|change| {
+            order.own == self.own && order.sender == change.sender && order.serial == change.serial
+        })
     }
+}
 
+impl<C: Cipher, M: Multiplier> Station<C, M> {
     /// Spends the order, and drops the key that waits.
     ///
     /// Refused by `NotStarted`, and by `OtherOrder` where the order does not match what waits; the order is then handed
@@ -41,13 +39,13 @@ impl<C: Cipher, M: Multiplier> Station<C, M> {
         ensures declines { Declining (view C.Cipher M.Multiplier self.old) (order_of order) (returned (λ _. Done) result) (view C.Cipher M.Multiplier self.new) }
         ensures back { IfErr result (λ back. back.order ≡ order) }
     {
-        if !self.ledger.started {
+        let Some(ledger) = &mut self.ledger else {
             return Err(OrderBack {
                 order,
                 fault: StationFault::NotStarted,
             });
-        }
-        if !self.matches(&order) {
+        };
+        if !ledger.matches(&order) {
             return Err(OrderBack {
                 order,
                 fault: StationFault::OtherOrder,
@@ -58,7 +56,7 @@ impl<C: Cipher, M: Multiplier> Station<C, M> {
             sender: _,
             serial: _,
         } = order;
-        self.ledger.pending = None;
+        ledger.pending = None;
         Ok(())
     }
 }

@@ -1,24 +1,23 @@
 // A telegram that came in, as far as it is told before it is opened.
-ghost use Rattle.block.specs.Num.{num};
 ghost use Rattle.station.specs.Incoming.{Told, Untold};
 ghost use Rattle.std.specs.Prelude.{◌≡◌, MatchResult};
 
+use arrayvec::ArrayVec;
 use block::Block;
 use telegram::fault::TelegramFault;
-use telegram::header::{Header, Kind};
+use telegram::header::Header;
+use telegram::kind::Kind;
 use telegram::parts::Places;
 use telegram::reading::fields;
-use telegram::sizes::MAX_HEADER;
+use telegram::sizes::Sizes;
 
-#[derive(Clone, Copy)]
+#[derive(Drop)]
 pub(crate) struct Incoming {
     pub(crate) gauge: u8,
     pub(crate) serial: u32,
     pub(crate) kind: Kind,
-    // the header stands in front
-    pub(crate) header: [u8; 1024],
-    pub(crate) header_len: usize,
-    pub(crate) message_len: usize,
+    pub(crate) header: ArrayVec<u8, 1024>,
+    pub(crate) sizes: Sizes,
     pub(crate) tag: Block,
     pub(crate) places: Places,
 }
@@ -29,19 +28,16 @@ impl Incoming {
     {
         let parts = fields(buffer)?;
         let told = Header::read(parts.header)?;
-        let header_len = parts.header.len();
-        let mut header = [0; MAX_HEADER];
-        header[0..header_len].copy_from_slice(parts.header);
-        let mut tag = [0; 16];
-        tag.copy_from_slice(parts.tag);
         Ok(Incoming {
             gauge: told.gauge,
             serial: told.serial,
             kind: told.kind,
-            header,
-            header_len,
-            message_len: parts.ciphertext.len(),
-            tag: Block::from_bytes(tag),
+            header: ArrayVec::try_from(parts.header).unwrap(),
+            sizes: Sizes {
+                header: parts.header.len(),
+                message: parts.ciphertext.len(),
+            },
+            tag: Block::from_bytes(parts.tag.try_into().unwrap()),
             places: parts.places,
         })
     }

@@ -4,13 +4,12 @@ ghost use Rattle.station.specs.State.{view};
 ghost use Rattle.station.specs.Steps.{Opening, answered};
 ghost use Rattle.std.specs.Prelude.{◌≡◌};
 
-use crate::admission::Admission;
 use crate::fault::StationFault;
 use crate::parts::Station;
 use cipher::Cipher;
 use multiplier::Multiplier;
-use seal::fault::SealFault;
 use seal::watch::Watch;
+use telegram::kind::Kind;
 use telegram::parts::Place;
 
 /// A measurement that was opened: who sent it, and where it and its header stand in the buffer.
@@ -35,22 +34,11 @@ impl<C: Cipher, M: Multiplier> Station<C, M> {
             bytes: buffer,
             released: false,
         };
-        let Admission { incoming, wear } = self.examine(false, watch.contents())?;
-        self.ledger.wear = wear;
-        let header_len = incoming.header_len;
-        let Place { start, end } = incoming.places.ciphertext;
-        if !watch.open_part(
-            &self.cipher,
-            &self.multiplier,
-            &incoming.header[0..header_len],
-            incoming.tag,
-            start,
-            end,
-        ) {
-            return Err(StationFault::Seal(SealFault::Mismatch));
-        }
+        let Some(ledger) = &mut self.ledger else {
+            return Err(StationFault::NotStarted);
+        };
+        let incoming = ledger.admit(&self.hbs, Kind::Measurement, &mut watch)?;
         watch.release();
-        self.ledger.hear(incoming.gauge, incoming.serial);
         Ok(Opened {
             gauge: incoming.gauge,
             serial: incoming.serial,

@@ -5,15 +5,14 @@ ghost use Rattle.std.specs.Prelude.{◌≡◌, ◌≤◌, length};
 ghost use Rattle.station.specs.State.{view, wait, waiting};
 ghost use Rattle.station.specs.Steps.{KeyOpening, answered};
 
-use crate::admission::Admission;
 use crate::fault::StationFault;
 use crate::order::ChangeOrder;
 use crate::parts::{Change, Station};
 use arrayvec::ArrayVec;
 use cipher::Cipher;
 use multiplier::Multiplier;
-use seal::fault::SealFault;
 use seal::watch::Watch;
+use telegram::kind::Kind;
 use telegram::parts::Place;
 
 impl Change {
@@ -42,26 +41,15 @@ impl<C: Cipher, M: Multiplier> Station<C, M> {
             bytes: buffer,
             released: false,
         };
-        let Admission { incoming, wear } = self.examine(true, watch.contents())?;
-        self.ledger.wear = wear;
-        let header_len = incoming.header_len;
+        let Some(ledger) = &mut self.ledger else {
+            return Err(StationFault::NotStarted);
+        };
+        let incoming = ledger.admit(&self.hbs, Kind::Key, &mut watch)?;
         let Place { start, end } = incoming.places.ciphertext;
-        if !watch.open_part(
-            &self.cipher,
-            &self.multiplier,
-            &incoming.header[0..header_len],
-            incoming.tag,
-            start,
-            end,
-        ) {
-            return Err(StationFault::Seal(SealFault::Mismatch));
-        }
-        let opened = watch.contents();
-        let change = Change::new(incoming.gauge, incoming.serial, &opened[start..end]);
-        self.ledger.hear(incoming.gauge, incoming.serial);
-        self.ledger.pending = Some(change);
+        let key = &watch.contents()[start..end];
+        ledger.pending = Some(Change::new(incoming.gauge, incoming.serial, key));
         Ok(ChangeOrder {
-            own: self.ledger.own,
+            own: ledger.own,
             sender: incoming.gauge,
             serial: incoming.serial,
         })

@@ -1,6 +1,7 @@
 // What a station holds.
 use crate::wear::Wear;
 use arrayvec::ArrayVec;
+use mode::hbs::Hbs;
 
 /// What is known of a gauge under the key in force.
 #[derive(Clone, Copy)]
@@ -17,10 +18,9 @@ pub struct Change {
     pub(crate) key: ArrayVec<u8, 255>,
 }
 
-/// The station's record.
+/// The record of a station that is started.
 #[derive(Drop)]
 pub struct Ledger {
-    pub(crate) started: bool,
     pub(crate) own: u8,
     // the last own serial given
     pub(crate) given: u32,
@@ -32,7 +32,7 @@ pub struct Ledger {
 /// Seals and opens telegrams under a key.
 #[derive(Drop)]
 pub struct Station<C, M> {
-    pub(crate) cipher: C,
-    pub(crate) multiplier: M,
-    pub(crate) ledger: Ledger,
+    pub(crate) hbs: Hbs<C, M>,
+    // none before the start
+    pub(crate) ledger: Option<Ledger>,
 }

@@ -45,10 +45,10 @@ impl<C: Cipher, M: Multiplier> Station<C, M> {
     pub fn report(&self, out: &mut [u8]) -> Result<Report, StationFault>
         ensures { Reporting (view C.Cipher M.Multiplier self.now) out.old (answered (λ o. Reported o.count o.calls o.header_blocks o.message_blocks) result) out.new }
     {
-        if !self.ledger.started {
+        let Some(ledger) = &self.ledger else {
             return Err(StationFault::NotStarted);
-        }
-        let entries = self.ledger.entries();
+        };
+        let entries = ledger.entries();
         let bytes = entries.as_flattened();
         if out.len() < bytes.len() {
             return Err(StationFault::OutputShort);
@@ -56,9 +56,9 @@ impl<C: Cipher, M: Multiplier> Station<C, M> {
         out[0..bytes.len()].copy_from_slice(bytes);
         Ok(Report {
             count: entries.len(),
-            calls: self.ledger.wear.calls,
-            header_blocks: self.ledger.wear.header_blocks,
-            message_blocks: self.ledger.wear.message_blocks,
+            calls: ledger.wear.calls,
+            header_blocks: ledger.wear.header_blocks,
+            message_blocks: ledger.wear.message_blocks,
         })
     }
 }

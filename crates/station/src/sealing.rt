@@ -1,94 +1,91 @@
 // Sealing a message into a telegram.
-ghost use Rattle.std.specs.Prelude.{◌≡◌, ◌+◌, ◌^◌, ◌<◌, ◌≤◌, true, false, [], length, MatchResult};
+ghost use Rattle.std.specs.Prelude.{◌≡◌, ◌+◌, false, [], length, MatchResult};
+ghost use Rattle.mode.specs.Keys.{keys};
 ghost use Rattle.station.specs.Calls.{Sealed};
-ghost use Rattle.station.specs.State.{view};
-ghost use Rattle.station.specs.Steps.{Sealing, Seals, answered, not_a_key, out_of_size, telegram_of};
-ghost use Rattle.telegram.specs.Header.{heading};
+ghost use Rattle.station.specs.State.{started_with, view};
+ghost use Rattle.station.specs.Steps.{Sealing, answered, not_a_key, out_of_size, telegram_under};
+ghost use Rattle.telegram.specs.Kind.{kind_byte};
 
 use crate::fault::StationFault;
-use crate::parts::Station;
+use crate::outgoing::Outgoing;
+use crate::parts::{Ledger, Station};
 use cipher::Cipher;
-use mode::sealing::seal;
+use mode::hbs::Hbs;
 use multiplier::Multiplier;
 use seal::fault::SealFault;
 use telegram::fault::TelegramFault;
-use telegram::header::{Header, Kind};
-use telegram::parts::{Place, Places};
-use telegram::sizes::{FIXED_BYTES, MAX_HEADER, MAX_MESSAGE, MAX_NOTE, MIN_HEADER};
-use telegram::writing::{places, write_frame};
+use telegram::header::Header;
+use telegram::kind::Kind;
+use telegram::parts::Place;
+use telegram::sizes::{FIXED_BYTES, MAX_MESSAGE, MAX_NOTE, MIN_HEADER, Sizes};
+use telegram::writing::write_frame;
 
-impl<C: Cipher, M: Multiplier> Station<C, M> {
-    /// Seals a message under a header where it lies, and answers the tag's bytes.
-    fn seal_under(&self, header: &Header<'_>, text: &mut [u8]) -> Result<[u8; 16], TelegramFault>
-        requires { length header.now.note.now ≤ 1018 }
-        ensures { MatchResult result (λ tag. Seals (view C.Cipher M.Multiplier self.now) (heading header.now) text.old tag text.new) (λ _. ⊥) }
+impl Outgoing<'_> {
+    fn sizes(&self) -> Sizes
+        ensures header { result.header ≡ 6 + length self.now.note.now }
+        ensures message { result.message ≡ length self.now.message.now }
     {
-        let mut bytes = [0; MAX_HEADER];
-        let header_bytes = &mut bytes[0..MIN_HEADER + header.note.len()];
-        header.write(header_bytes)?;
-        let tag = seal(&self.cipher, &self.multiplier, Some(&*header_bytes), text);
-        Ok(tag.to_bytes())
+        Sizes {
+            header: MIN_HEADER + self.note.len(),
+            message: self.message.len(),
+        }
     }
 
-    /// Writes the telegram with this header and message, which fills `out`. The message is enciphered where it lies.
-    fn write_telegram(
+    /// Writes the telegram under a header, which fills `out`. The message is enciphered where it lies.
+    fn write<C: Cipher, M: Multiplier>(
         &self,
-        header: &Header<'_>,
-        message: &[u8],
+        hbs: &Hbs<C, M>,
+        gauge: u8,
+        serial: u32,
         out: &mut [u8],
     ) -> Result<(), TelegramFault>
-        requires { (length header.now.note.now ≤ 1018) × ((length message.now ≤ 4096) × (length out.old ≡ 27 + length header.now.note.now + length message.now)) }
-        ensures { MatchResult result (λ _. out.new ≡ telegram_of (view C.Cipher M.Multiplier self.now) (heading header.now) message.now) (λ _. ⊥) }
+        requires { length out.old ≡ 27 + length self.now.note.now + length self.now.message.now }
+        ensures { MatchResult result (λ _. out.new ≡ telegram_under (keys C.Cipher M.Multiplier hbs.now) (record { gauge = gauge; serial = serial; kind = kind_byte self.now.kind; note = self.now.note.now }) self.now.message.now) (λ _. ⊥) }
     {
-        let Places {
-            header: _,
-            tag,
-            ciphertext,
-        } = places(header, message.len())?;
-        let Place { start, end } = ciphertext;
-        let text = &mut out[start..end];
-        text.copy_from_slice(message);
-        let sealed = self.seal_under(header, text)?;
-        let Place { start, end } = tag;
-        out[start..end].copy_from_slice(&sealed);
-        write_frame(out, header)?;
+        let header = Header {
+            gauge,
+            serial,
+            kind: self.kind,
+            note: self.note,
+        };
+        let places = write_frame(out, &header)?;
+        let (front, text) = out.split_at_mut(places.tag.end);
+        text.copy_from_slice(self.message);
+        let Place { start, end } = places.header;
+        let sealed = hbs.seal(Some(&front[start..end]), text);
+        let Place { start, end } = places.tag;
+        front[start..end].copy_from_slice(&sealed.to_bytes());
         Ok(())
     }
+}
 
-    /// Seals a message of a kind into the front of `out`: the tests of the output, of serials and of wear, and what follows.
-    fn seal_message(
+impl Ledger {
+    /// Seals a message into the front of `out`: the tests of the output, of serials and of wear, and what follows.
+    fn seal<C: Cipher, M: Multiplier>(
         &mut self,
-        kind: Kind,
-        note: &[u8],
-        message: &[u8],
+        hbs: &Hbs<C, M>,
+        outgoing: &Outgoing<'_>,
         out: &mut [u8],
     ) -> Result<usize, StationFault>
-        requires { (self.old.ledger.started ≡ true) × ((length note.now ≤ 1018) × (length message.now ≤ 4096)) }
-        ensures { Sealing (view C.Cipher M.Multiplier self.old) kind.0 false note.now message.now out.old (answered Sealed result) out.new (view C.Cipher M.Multiplier self.new) }
+        ensures { Sealing (started_with (keys C.Cipher M.Multiplier hbs.now) self.old) (kind_byte outgoing.now.kind) false outgoing.now.note.now outgoing.now.message.now out.old (answered Sealed result) out.new (started_with (keys C.Cipher M.Multiplier hbs.now) self.new) }
     {
-        let len = FIXED_BYTES + MIN_HEADER + note.len() + message.len();
+        let sizes = outgoing.sizes();
+        let len = FIXED_BYTES + sizes.header + sizes.message;
         if out.len() < len {
             return Err(StationFault::OutputShort);
         }
-        if self.ledger.given == u32::MAX {
+        if self.given == u32::MAX {
             return Err(StationFault::SerialsGiven);
         }
-        let wear = self
-            .ledger
-            .wear
-            .and_one(MIN_HEADER + note.len(), message.len())?;
-        let header = Header {
-            gauge: self.ledger.own,
-            serial: self.ledger.given + 1,
-            kind,
-            note,
-        };
-        self.write_telegram(&header, message, &mut out[0..len])?;
-        self.ledger.given += 1;
-        self.ledger.wear = wear;
+        let wear = self.wear.and_one(sizes)?;
+        outgoing.write(hbs, self.own, self.given + 1, &mut out[0..len])?;
+        self.given += 1;
+        self.wear = wear;
         Ok(len)
     }
+}
 
+impl<C: Cipher, M: Multiplier> Station<C, M> {
     /// Seals a measurement into the front of `out`, with the next own serial, and answers the telegram's length. What
     /// stands behind the telegram stays.
     ///
@@ -102,13 +99,18 @@ impl<C: Cipher, M: Multiplier> Station<C, M> {
     ) -> Result<usize, StationFault>
         ensures { Sealing (view C.Cipher M.Multiplier self.old) 0 (out_of_size note.now message.now) note.now message.now out.old (answered Sealed result) out.new (view C.Cipher M.Multiplier self.new) }
     {
-        if !self.ledger.started {
+        let Some(ledger) = &mut self.ledger else {
             return Err(StationFault::NotStarted);
-        }
+        };
         if note.len() > MAX_NOTE || message.len() > MAX_MESSAGE {
             return Err(StationFault::Seal(SealFault::Size));
         }
-        self.seal_message(Kind::MEASUREMENT, note, message, out)
+        let outgoing = Outgoing {
+            kind: Kind::Measurement,
+            note,
+            message,
+        };
+        ledger.seal(&self.hbs, &outgoing, out)
     }
 
     /// Seals a new key into the front of `out`, with an empty note, else as `seal` does. Refused by `Size` where the key is
@@ -116,12 +118,17 @@ impl<C: Cipher, M: Multiplier> Station<C, M> {
     pub fn seal_key(&mut self, key: &[u8], out: &mut [u8]) -> Result<usize, StationFault>
         ensures { Sealing (view C.Cipher M.Multiplier self.old) 1 (not_a_key (view C.Cipher M.Multiplier self.old) key.now) [] key.now out.old (answered Sealed result) out.new (view C.Cipher M.Multiplier self.new) }
     {
-        if !self.ledger.started {
+        let Some(ledger) = &mut self.ledger else {
             return Err(StationFault::NotStarted);
-        }
-        if key.len() != self.cipher.key_len() {
+        };
+        if key.len() != self.hbs.cipher.key_len() {
             return Err(StationFault::Seal(SealFault::Size));
         }
-        self.seal_message(Kind::KEY, &[], key, out)
+        let outgoing = Outgoing {
+            kind: Kind::Key,
+            note: &[],
+            message: key,
+        };
+        ledger.seal(&self.hbs, &outgoing, out)
     }
 }

@@ -1,14 +1,14 @@
 // A new station, and its start.
 ghost use Rattle.station.specs.Calls.{Done};
-ghost use Rattle.station.specs.State.{view};
-ghost use Rattle.station.specs.Steps.{Starting, answered, unstarted};
+ghost use Rattle.station.specs.State.{unstarted, view};
+ghost use Rattle.station.specs.Steps.{Starting, answered};
 ghost use Rattle.std.specs.Prelude.{◌≡◌};
 
 use crate::fault::StationFault;
 use crate::parts::{Gauge, Ledger, Station};
 use crate::wear::Wear;
 use cipher::Cipher;
-use mode::sealing::load_key;
+use mode::hbs::Hbs;
 use multiplier::Multiplier;
 
 /// The own gauge is at most this.
@@ -26,16 +26,8 @@ impl<C: Cipher, M: Multiplier> Station<C, M> {
         ensures { view C.Cipher M.Multiplier result ≡ unstarted (C.Cipher.scheme cipher) (C.Cipher.loaded cipher) (M.Multiplier.element multiplier) }
     {
         Station {
-            cipher,
-            multiplier,
-            ledger: Ledger {
-                started: false,
-                own: 0,
-                given: 0,
-                gauges: [Gauge { last: 0 }; 16],
-                wear: Wear::none(MIN_ALLOWANCE),
-                pending: None,
-            },
+            hbs: Hbs::new(cipher, multiplier),
+            ledger: None,
         }
     }
 
@@ -46,23 +38,22 @@ impl<C: Cipher, M: Multiplier> Station<C, M> {
     pub fn start(&mut self, own: u8, allowance: u64, key: &[u8]) -> Result<(), StationFault>
         ensures { Starting (view C.Cipher M.Multiplier self.old) own allowance key.now (answered (λ _. Done) result) (view C.Cipher M.Multiplier self.new) }
     {
-        if self.ledger.started {
+        if self.ledger.is_some() {
             return Err(StationFault::AlreadyStarted);
         }
         if own > MAX_GAUGE || allowance < MIN_ALLOWANCE || allowance > MAX_ALLOWANCE {
             return Err(StationFault::StartRange);
         }
-        if !load_key(&mut self.cipher, &mut self.multiplier, key) {
-            return Err(StationFault::StartRange);
-        }
-        self.ledger = Ledger {
-            started: true,
+        self.hbs
+            .load(key)
+            .map_err(|_wrong_key_len| StationFault::StartRange)?;
+        self.ledger = Some(Ledger {
             own,
             given: 0,
             gauges: [Gauge { last: 0 }; 16],
             wear: Wear::none(allowance),
             pending: None,
-        };
+        });
         Ok(())
     }
 }

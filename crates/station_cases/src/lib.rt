@@ -17,12 +17,7 @@ mod tests {
     const MESSAGE: [u8; 16] = [0, 0, 0, 0, 0, 0, 0, 0, 0, 0, 0, 0, 0, 0, 0, 3];
 
     fn is_zero(bytes: &[u8]) -> bool {
-        for b in bytes {
-            if *b != 0 {
-                return false;
-            }
-        }
-        true
+        bytes.iter().all(|b| *b == 0)
     }
 
     fn started(own: u8, allowance: u64) -> Result<Station<Bench, Table>, StationFault> {

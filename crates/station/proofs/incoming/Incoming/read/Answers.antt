@@ -1,6 +1,5 @@
-use Rattle.std.proofs.Common.{ℕ, ◌≤◌, List, length, sym, ap, ◌∙◌, subst, ap₂}
+use Rattle.std.proofs.Common.{List, length, ap, ◌∙◌, ap₂}
 use Rattle.block.specs.Bytes.{spelled}
-use Rattle.std.proofs.lemmas.List.{take_at}
 use Rattle.telegram.specs.Calls.{parts_of}
 use Rattle.telegram.specs.Format.{Parts}
 use Rattle.telegram.specs.Header.{Heading, headed, heading}
@@ -10,9 +9,15 @@ use Rattle.telegram.specs.declared.parts.Places.{Places}
 use Rattle.station.proofs.Telling.{reads, heads, written_long}
 use Rattle.station.proofs.incoming.Incoming.read.Goals as goal
 
-pub copy_from_slice-requires-2 : goal.copy_from_slice-requires-2
-copy_from_slice-requires-2 c =
-    sym (reads_sized c.args.buffer.now (parts_of c.in_ok-parts.parts) c.in_ok-parts.ensures.reads).tag
+pub unwrap-requires-2 : goal.unwrap-requires-2
+unwrap-requires-2 c =
+    let sized = reads_sized c.args.buffer.now (parts_of c.in_ok-parts.parts) c.in_ok-parts.ensures.reads in
+    c.try_into.ensures.0 sized.tag
+
+pub invariant_of-result : goal.invariant_of-result
+invariant_of-result c =
+    let sized = reads_sized c.args.buffer.now (parts_of c.in_ok-parts.parts) c.in_ok-parts.ensures.reads in
+    record { header_sized = sized.header; message_short = sized.ciphertext }
 
 pub returns : goal.returns
 returns c =
@@ -23,19 +28,19 @@ returns c =
     let sized = reads_sized b (parts_of f) read.reads in
     let header = ap (λ (p : Parts). p.header) tells.2 in
     let told = heads f.header.now (heading c.in_ok-told.told) c.in_ok-told.ensures.reads ∙ ap headed header in
+    let held = rw c.unwrap.ensures at c.try_from.ensures in
+    let tag = rw c.unwrap-2.ensures at c.try_into.ensures.1 in
     record {
       version = tells.0;
       lengths = tells.1;
       gauge = ap (λ (h : Heading). h.gauge) told;
       serial = ap (λ (h : Heading). h.serial) told;
       kind = ap (λ (h : Heading). h.kind) told;
-      header = take_at c.copy_from_slice.new.self _ (length f.header.now) (ap length c.copy_from_slice.ensures.after) ∙ c.copy_from_slice.ensures.after ∙ header;
+      header = held.0 ∙ header;
       header_len = ap length header;
       message_len = ap (λ (p : Parts). length p.ciphertext) tells.2;
-      tag = c.from_bytes.ensures ∙ ap spelled (c.copy_from_slice-2.ensures.after ∙ ap (λ (p : Parts). p.tag) tells.2);
+      tag = c.from_bytes.ensures ∙ ap spelled (tag.same ∙ ap (λ (p : Parts). p.tag) tells.2);
       places = read.lies.places ∙ ap₂ layout (ap length header) (ap (λ (p : Parts). length p.ciphertext) tells.2);
       there = read.lies.ciphertext ∙ ap (λ (p : Parts). p.ciphertext) tells.2;
       ends = ap (λ (p : Places). p.ciphertext.end) read.lies.places ∙ written_long (parts_of f) sized.tag ∙ ap length read.rewrites;
-      header_short = subst (λ (x : List ℕ). length x ≤ 1024) header sized.header.1;
-      message_short = subst (λ (p : Parts). length p.ciphertext ≤ 4096) tells.2 sized.ciphertext;
     }
