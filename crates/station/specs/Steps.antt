@@ -1,5 +1,5 @@
 -- What each call answers, what it leaves in its buffer, and what the station holds then.
-use Rattle.std.specs.Prelude.{◌≡◌, ℕ, ◌+◌, Bool, true, false, cond, not, ◌||◌, List, [], ◌++◌, length, take, drop, Some, None, Ok, Err, Option, Result, ◌==◌, nat_lt, slice_set}
+use Rattle.std.specs.Prelude.{◌≡◌, ℕ, ◌+◌, Bool, true, cond, not, ◌||◌, List, [], ◌++◌, length, take, drop, Some, None, Ok, Err, Option, Result, ◌==◌, nat_lt, slice_set}
 use Rattle.std.specs.Option.{unwrap_or}
 use Rattle.block.specs.Bytes.{bytes}
 use Rattle.mode.specs.Sealing.{Keys, sealed_with}

@@ -1,12 +1,9 @@
 // Opening a telegram where it stands, which both openings do.
-ghost use Rattle.std.specs.Prelude.{◌≡◌, length, Some, None, MatchResult};
+ghost use Rattle.std.specs.Prelude.{◌≡◌};
 ghost use Rattle.mode.specs.Keys.{keys};
 ghost use Rattle.seal.specs.Watching.{SameBuffer};
-ghost use Rattle.station.specs.Admission.{Opens};
-ghost use Rattle.station.specs.Answers.{refusal};
+ghost use Rattle.station.specs.Admission.{Admits};
 ghost use Rattle.station.specs.State.{started_with};
-ghost use Rattle.station.specs.Steps.{accepting, refusing};
-ghost use Rattle.station.specs.Tests.{opening_tests, past};
 
 use crate::admission::Admission;
 use crate::fault::StationFault;
@@ -28,9 +25,7 @@ impl Ledger {
         wanted: Kind,
         watch: &mut Watch<'_>,
     ) -> Result<Incoming, StationFault>
-        ensures answers { MatchResult result (Opens (started_with (keys C.Cipher M.Multiplier hbs.now) self.old) wanted watch.old.bytes.now watch.new.bytes.now) (λ fault. past (opening_tests (started_with (keys C.Cipher M.Multiplier hbs.now) self.old) wanted watch.old.bytes.now) Some None ≡ Some (refusal fault)) }
-        ensures moves { started_with (keys C.Cipher M.Multiplier hbs.now) self.new ≡ past (opening_tests (started_with (keys C.Cipher M.Multiplier hbs.now) self.old) wanted watch.old.bytes.now) (refusing (started_with (keys C.Cipher M.Multiplier hbs.now) self.old) watch.old.bytes.now) (accepting (started_with (keys C.Cipher M.Multiplier hbs.now) self.old).pending (started_with (keys C.Cipher M.Multiplier hbs.now) self.old) watch.old.bytes.now) }
-        ensures len { length watch.new.bytes.now ≡ length watch.old.bytes.now }
+        ensures admits { Admits (started_with (keys C.Cipher M.Multiplier hbs.now) self.old) wanted watch.old.bytes.now result watch.new.bytes.now (started_with (keys C.Cipher M.Multiplier hbs.now) self.new) }
         ensures holds { watch.new.released ≡ watch.old.released }
         ensures same { SameBuffer watch.old watch.new }
     {

@@ -1,4 +1,4 @@
-use Rattle.std.proofs.Common.{List, length, ap, ◌∙◌, ap₂}
+use Rattle.std.proofs.Common.{length, ap, ◌∙◌, ap₂}
 use Rattle.block.specs.Bytes.{spelled}
 use Rattle.telegram.specs.Calls.{parts_of}
 use Rattle.telegram.specs.Format.{Parts}

@@ -2,7 +2,7 @@ use Rattle.std.proofs.Common.{ℕ, leb, refl, ap, ◌∙◌, ap₂}
 use Rattle.std.proofs.lemmas.Result.{err_from_is_err_and}
 use Rattle.mode.specs.Keys.{keys}
 use Rattle.station.specs.State.{last_of, started_with}
-use Rattle.station.specs.Use.{counted, use_of}
+use Rattle.station.specs.Use.{counted}
 use Rattle.station.proofs.Admits.{stops_8, stops_9, stops_10, stops_12, stops_13, passes_all}
 use Rattle.station.proofs.parts.Ledger.examine.Goals as goal
 

@@ -9,7 +9,7 @@ use Rattle.station.proofs.parts.Station.open.Goals as goal
 pub returns-in_err-incoming : goal.returns-in_err-incoming
 returns-in_err-incoming g c =
     let s = started_with (keys g.C.Cipher g.M.Multiplier c.args.self.now.hbs) c.in-Some.ledger in
-    let admit = c.in_err-incoming.ensures in
+    let admit = c.in_err-incoming.ensures.admits in
     let from = err_from_is_err_and c.from_residual.result c.from_residual.ensures.1 in
     rw c.in-Some.is
     (refused s c.args.buffer.now admit.moves (refusal c.in_err-incoming.field-0.0) admit.answers (simp (from.1, from.2)) (search rules))
@@ -18,7 +18,7 @@ pub returns : goal.returns
 returns g c =
     let s = started_with (keys g.C.Cipher g.M.Multiplier c.args.self.now.hbs) c.in-Some.ledger in
     let b = c.args.buffer.now in
-    let admit = c.in_ok-incoming.ensures in
+    let admit = c.in_ok-incoming.ensures.admits in
     let opens = admit.answers in
     rw c.in-Some.is
     (accepted s b admit.moves opens.message opens.passed opens.opens (answers_told s b c.in_ok-incoming.incoming opens.told)

@@ -10,7 +10,7 @@ use Rattle.station.proofs.parts.Station.open_key.Goals as goal
 pub returns-in_err-incoming : goal.returns-in_err-incoming
 returns-in_err-incoming g c =
     let s = started_with (keys g.C.Cipher g.M.Multiplier c.args.self.now.hbs) c.in-Some.ledger in
-    let admit = c.in_err-incoming.ensures in
+    let admit = c.in_err-incoming.ensures.admits in
     let from = err_from_is_err_and c.from_residual.result c.from_residual.ensures.1 in
     rw c.in-Some.is
     (key_refused s c.args.buffer.now _ admit.moves (refusal c.in_err-incoming.field-0.0) admit.answers (simp (from.1, from.2)) (search rules))
@@ -18,7 +18,7 @@ returns-in_err-incoming g c =
 pub new-requires : goal.new-requires
 new-requires g c =
     let s = started_with (keys g.C.Cipher g.M.Multiplier c.args.self.now.hbs) c.in-Some.ledger in
-    let opens = c.in_ok-incoming.ensures.answers in
+    let opens = c.in_ok-incoming.ensures.admits.answers in
     part_short c.args.buffer.now c.in_ok-incoming.incoming opens.told s opens.passed
     (g.met.C.Cipher.lawful c.args.self.now.hbs.cipher).few c.contents.result.now
 
@@ -28,12 +28,12 @@ returns g c =
     let s = started_with k c.in-Some.ledger in
     let b = c.args.buffer.now in
     let i = c.in_ok-incoming.incoming in
-    let admit = c.in_ok-incoming.ensures in
+    let admit = c.in_ok-incoming.ensures.admits in
     let opens = admit.answers in
     let m = opens.message in
     let t = started_with k c.admit.new.self in
     let left = c.contents.ensures ∙ opens.leaves in
-    let long = message_long b i opens.told m c.contents.result.now left (ap length c.contents.ensures ∙ admit.len) in
+    let long = message_long b i opens.told m c.contents.result.now left (ap length c.contents.ensures ∙ admit.long) in
     let key : between i.places.ciphertext.start i.places.ciphertext.end c.contents.result.now ≡ m =
     ap (between i.places.ciphertext.start i.places.ciphertext.end) left ∙ message_there b i opens.told m long in
     rw c.in-Some.is
