@@ -15,7 +15,7 @@ use Rattle.multiplier.specs.declared.Multiplier as Multiplier
 use Rattle.seal.specs.declared.fault.SealFault.TheVariants.{Size, Mismatch}
 use Rattle.seal.specs.Answers.{refusal}
 use Rattle.seal.specs.Sizes.{message_sized, sized}
-use Rattle.seal.specs.Wrapping.{given, accepted, left, verdict, Wrapped, Unwrapped}
+use Rattle.seal.specs.Wrapping.{cleared, given, accepted, left, verdict, Wrapped, Unwrapped}
 
 -- once a key is loaded, it is what is held, with its hash key
 held : {C M : Type 0} {cs : Cipher.Ghosts C} {ms : Multiplier.Ghosts M} {k : List ℕ} {hbs hbs' : Hbs C M}
@@ -62,7 +62,7 @@ module _ (s : Scheme) (k : List ℕ) (h : Option (List ℕ)) (t x : List ℕ) wh
       block = law.enc_block k start key (hash_lt (s.enc k 0) h x)
 
   -- past the size test what opens decides what unwrap answers and leaves
-  pub left-past : sized s k h t x ≡ true → {o : Option (List ℕ)} → opened s k h (given t x) ≡ o → left (accepted s k h t x) x ≡ left o x
+  left-past : sized s k h t x ≡ true → {o : Option (List ℕ)} → opened s k h (given t x) ≡ o → left (accepted s k h t x) x ≡ left o x
   left-past fits is = ap₂ (λ b o. left (cond b o None) x) fits is
 
   module _ (law : Lawful s) (keys : AllBytes k) (tags : AllBytes t) (fits : sized s k h t x ≡ true) where
@@ -72,25 +72,24 @@ module _ (s : Scheme) (k : List ℕ) (h : Option (List ℕ)) (t x : List ℕ) wh
     answer_past : (o : Option (List ℕ)) → opened s k h (given t x) ≡ o → verdict o ≡ cond (sized s k h t x) (verdict (opened s k h (given t x))) (refusal Size)
     answer_past o is = sym (ap₂ (λ b o. cond b (verdict o) (refusal Size)) fits is)
 
-    pub unwraps : {m y : List ℕ} → opened s k h (given t x) ≡ Some m → y ≡ left (accepted s k h t x) x → Unwrapped s k h t x 0 y
-    unwraps {m} {y} opens leaves =
-        let is : y ≡ m = leaves ∙ left-past fits opens in
+    pub unwraps : {m y : List ℕ} → opened s k h (given t x) ≡ Some m → y ≡ m → Unwrapped s k h t x 0 y
+    unwraps {m} {y} opens is =
         let law' = inverses s k h law key in
         let reseals : sealed s k h m ≡ given t x = law'.reseals (given t x) m (spelled_block t (tag_long fits) tags) opens in
         record {
           answers = answer_past (Some m) opens;
-          leaves = leaves;
+          leaves = is ∙ sym (left-past fits opens);
           reseals = λ _. ap (sealed s k h) is ∙ reseals;
           only = λ _ n seals. law'.one n m (seals ∙ sym reseals) ∙ sym is;
           refused = λ e n seals. omega arith;
           refuses = λ _ no_one. absurd (no_one m reseals);
         }
 
-    pub refuses : {y : List ℕ} → opened s k h (given t x) ≡ None → y ≡ left (accepted s k h t x) x → Unwrapped s k h t x (refusal Mismatch) y
-    refuses opens leaves =
+    pub refuses : {y : List ℕ} → opened s k h (given t x) ≡ None → y ≡ cleared x → Unwrapped s k h t x (refusal Mismatch) y
+    refuses opens is =
         record {
           answers = answer_past None opens;
-          leaves = leaves;
+          leaves = is ∙ sym (left-past fits opens);
           reseals = λ e. absurd (omega arith);
           only = λ e m seals. absurd (omega arith);
           refused = λ _. (inverses s k h law key).refused (given t x) opens;

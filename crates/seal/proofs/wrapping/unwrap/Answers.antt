@@ -2,7 +2,7 @@ use Rattle.std.proofs.Common.{◌≡◌, true, sym, ap, ◌∙◌, rules}
 use Rattle.std.specs.Option.{option_copied}
 use Rattle.block.specs.Bytes.{spelled}
 use Rattle.seal.specs.Sizes.{sized}
-use Rattle.seal.proofs.Wraps.{past, opens_held, left-past, unwraps, refuses}
+use Rattle.seal.proofs.Wraps.{past, opens_held, unwraps, refuses}
 use Rattle.seal.proofs.wrapping.unwrap.Goals as goal
 
 pub returns-then-not-open-clause-opens : goal.returns-then-not-open-clause-opens
@@ -15,7 +15,6 @@ returns-then-not-open-clause-opens g c =
     let load = c.in_ok-load.ensures in
     let fits : sized s k h t x ≡ true = past s k h t x (search rules) (sym c.if-not-fits.ensures) (sym load.fits) in
     let opens = opens_held h t x load.keys (c.from_bytes.ensures ∙ ap spelled (search rules)) c.if-not-open.ensures.opens in
-    let leaves = left-past s k h t x fits opens in
     refuses s k h t x (g.met.C.Cipher.lawful c.args.hbs.now.cipher) (λ i _. search rules) (λ i _. search rules) fits opens (search rules)
 
 pub returns-clause-opens : goal.returns-clause-opens
@@ -28,5 +27,4 @@ returns-clause-opens g c =
     let load = c.in_ok-load.ensures in
     let fits : sized s k h t x ≡ true = past s k h t x (search rules) (sym c.if-not-fits.ensures) (sym load.fits) in
     let opens = opens_held h t x load.keys (c.from_bytes.ensures ∙ ap spelled (search rules)) c.if-not-open.ensures.opens in
-    let leaves = left-past s k h t x fits opens in
     unwraps s k h t x (g.met.C.Cipher.lawful c.args.hbs.now.cipher) (λ i _. search rules) (λ i _. search rules) fits opens (search rules)
