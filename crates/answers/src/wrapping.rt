@@ -17,6 +17,7 @@ use multiplier::Multiplier;
 use seal::wrapping::{unwrap, wrap};
 use std::alloc::{AllocError, Global};
 
+// the clause `scheme` stays in each contract: it sets what an Hbs is against what it was, which no type says
 /// A request that is answered by a line.
 pub trait Answered: Request {
     /// What a request is answered, under a cipher's scheme ..

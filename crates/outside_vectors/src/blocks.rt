@@ -15,6 +15,7 @@ use lines::hex;
 use named::task::Task;
 use std::alloc::Global;
 
+// beside the Vector of `vectors`: that program knows no names, and a crate for the three fields alone is no plainer
 /// A block that a cipher takes to another under a key.
 #[derive(Drop)]
 pub(crate) struct BlockVector {
@@ -55,10 +56,7 @@ fn work_half<H: HalfCipher>(
 ) -> anyhow::Result<bool> {
     let half = read_half(heap, half)?;
     let enciphered = read_half(heap, enciphered)?;
-    match <HalfKey>::try_from(key) {
-        Ok(key) => Ok(half_agrees(cipher, &key, half, enciphered)),
-        Err(_) => Ok(false),
-    }
+    Ok(<HalfKey>::try_from(key).is_ok_and(|key| half_agrees(cipher, &key, half, enciphered)))
 }
 
 /// What kind of vector a line has, or `None` where it doesn't come out as expected.
