@@ -41,9 +41,7 @@ impl<C: Cipher, M: Multiplier> Station<C, M> {
             bytes: buffer,
             released: false,
         };
-        let Some(ledger) = &mut self.ledger else {
-            return Err(StationFault::NotStarted);
-        };
+        let ledger = self.ledger.as_mut().ok_or(StationFault::NotStarted)?;
         let incoming = ledger.admit(&self.hbs, Kind::Key, &mut watch)?;
         let Place { start, end } = incoming.places.ciphertext;
         let key = &watch.contents()[start..end];

@@ -45,9 +45,7 @@ impl<C: Cipher, M: Multiplier> Station<C, M> {
     pub fn report(&self, out: &mut [u8]) -> Result<Report, StationFault>
         ensures { Reporting (view C.Cipher M.Multiplier self.now) out.old (answered (λ o. Reported o.count o.calls o.header_blocks o.message_blocks) result) out.new }
     {
-        let Some(ledger) = &self.ledger else {
-            return Err(StationFault::NotStarted);
-        };
+        let ledger = self.ledger.as_ref().ok_or(StationFault::NotStarted)?;
         let entries = ledger.entries();
         let bytes = entries.as_flattened();
         if out.len() < bytes.len() {

@@ -99,9 +99,7 @@ impl<C: Cipher, M: Multiplier> Station<C, M> {
     ) -> Result<usize, StationFault>
         ensures { Sealing (view C.Cipher M.Multiplier self.old) 0 (out_of_size note.now message.now) note.now message.now out.old (answered Sealed result) out.new (view C.Cipher M.Multiplier self.new) }
     {
-        let Some(ledger) = &mut self.ledger else {
-            return Err(StationFault::NotStarted);
-        };
+        let ledger = self.ledger.as_mut().ok_or(StationFault::NotStarted)?;
         if note.len() > MAX_NOTE || message.len() > MAX_MESSAGE {
             return Err(StationFault::Seal(SealFault::Size));
         }
@@ -118,9 +116,7 @@ impl<C: Cipher, M: Multiplier> Station<C, M> {
     pub fn seal_key(&mut self, key: &[u8], out: &mut [u8]) -> Result<usize, StationFault>
         ensures { Sealing (view C.Cipher M.Multiplier self.old) 1 (not_a_key (view C.Cipher M.Multiplier self.old) key.now) [] key.now out.old (answered Sealed result) out.new (view C.Cipher M.Multiplier self.new) }
     {
-        let Some(ledger) = &mut self.ledger else {
-            return Err(StationFault::NotStarted);
-        };
+        let ledger = self.ledger.as_mut().ok_or(StationFault::NotStarted)?;
         if key.len() != self.hbs.cipher.key_len() {
             return Err(StationFault::Seal(SealFault::Size));
         }
