@@ -11,6 +11,7 @@ use Rattle.station.specs.Incoming.{Told}
 use Rattle.station.specs.declared.incoming.Incoming.{Incoming}
 use Rattle.std.proofs.lemmas.List.{drop_at, take_at}
 use Rattle.block.specs.Bytes.{spelled}
+use Rattle.std.proofs.lemmas.Option.{none-some}
 use Rattle.std.proofs.lemmas.Bool.{cond-true}
 use Rattle.std.proofs.lemmas.Bool.Decides.{nat_tests}
 use Rattle.telegram.specs.declared.parts.Places.{Places}
@@ -25,13 +26,13 @@ use Rattle.station.specs.Use.{Use, counted}
 -- ---- tests of which the first that refuses is known, or that none does
 
 pub past_stopped : {X : Type 0} (ts : List Test) (n : ℕ) (r : ℕ → X) (a : X) → past ts Some None ≡ Some n → past ts r a ≡ r n
-past_stopped [] n r a e = let z : ◌≡◌ {A = ℕ} 0 1 = cc in absurd (omega arith)
+past_stopped [] n r a e = absurd (none-some n e)
 past_stopped ((m, true) ∷ ts) n r a e = let same : m ≡ n = cc in ap r same
 past_stopped ((m, false) ∷ ts) n r a e = past_stopped ts n r a e
 
 pub past_passed : {X : Type 0} (ts : List Test) (r : ℕ → X) (a : X) → past ts Some None ≡ None → past ts r a ≡ a
 past_passed [] r a e = refl
-past_passed ((m, true) ∷ ts) r a e = let z : ◌≡◌ {A = ℕ} 0 1 = cc in absurd (omega arith)
+past_passed ((m, true) ∷ ts) r a e = absurd (none-some m (sym e))
 past_passed ((m, false) ∷ ts) r a e = past_passed ts r a e
 
 -- ---- the tests of an opening, of which the last is that of the message
@@ -88,7 +89,7 @@ AllFalse (t ∷ ts) = (t.1 ≡ false) × AllFalse ts
 
 all_false : (ts : List Test) → past ts Some None ≡ None → AllFalse ts
 all_false [] e = tt
-all_false ((m, true) ∷ ts) e = let z : ◌≡◌ {A = ℕ} 0 1 = cc in absurd (omega arith)
+all_false ((m, true) ∷ ts) e = absurd (none-some m (sym e))
 all_false ((m, false) ∷ ts) e = (refl, all_false ts e)
 
 second_false : (x y : Bool) → (not x || not y) ≡ false → y ≡ true
@@ -161,10 +162,10 @@ module _ (s : State) (b : List ℕ) (i : Incoming) (told : Told b i) where
 
 pub no_message : (o : Option (List ℕ)) (f : List ℕ → List ℕ) → None ≡ option_map f o → o ≡ None
 no_message None f e = refl
-no_message (Some m) f e = let z : ◌≡◌ {A = ℕ} 0 1 = cc in absurd (omega arith)
+no_message (Some m) f e = absurd (none-some (f m) e)
 
 pub some_message : (o : Option (List ℕ)) (f : List ℕ → List ℕ) (y : List ℕ) → Some y ≡ option_map f o → (m : List ℕ) × (o ≡ Some m) × (y ≡ f m)
-some_message None f y e = let z : ◌≡◌ {A = ℕ} 0 1 = cc in absurd (omega arith)
+some_message None f y e = absurd (none-some y (sym e))
 some_message (Some m) f y e = (m, refl, cc)
 
 -- ---- what is answered and held, in the telegram's words

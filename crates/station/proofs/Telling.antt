@@ -12,7 +12,7 @@ module _ {X : Type 0} (x : X) where
   past_both false true y e = (refl, refl, cc)
   past_both false false y e = let z : ◌≡◌ {A = ℕ} 0 1 = cc in absurd (omega arith)
 
-  past_one : (l : Bool) (y : X) → ◌≡◌ {A = Result X TelegramFault} (cond l (Ok x) (Err Lengths)) (Ok y) → y ≡ x
+  pub past_one : (l : Bool) (y : X) → ◌≡◌ {A = Result X TelegramFault} (cond l (Ok x) (Err Lengths)) (Ok y) → y ≡ x
   past_one true y e = cc
   past_one false y e = let z : ◌≡◌ {A = ℕ} 0 1 = cc in absurd (omega arith)
 

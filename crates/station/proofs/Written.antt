@@ -1,17 +1,16 @@
 -- What sealing leaves in the output: the frame that was written, with the tag and the ciphertext put into it.
-use Rattle.std.proofs.Common.{◌≡◌, ℕ, ◌+◌, ◌-◌, Bool, true, false, cond, List, [], ◌∷◌, ◌++◌, length, take, drop, Ok, Err, Result, Some, sym, ap, ◌∙◌, ap₂, append_assoc, arith, length-append}
+use Rattle.std.proofs.Common.{◌≡◌, ℕ, ◌+◌, ◌-◌, List, [], ◌∷◌, ◌++◌, length, take, drop, Ok, Some, sym, ap, ◌∙◌, ap₂, append_assoc, arith, length-append}
 use borrow.Rule.Slice.PartMut.{put_mid}
 use Rattle.std.proofs.lemmas.List.{append-nil, drop_all, drop_at, take_at}
 use Rattle.block.specs.Bytes.{bytes}
 use Rattle.mode.specs.Sealing.{Keys, Sealed, pair, sealed_with}
-use Rattle.telegram.specs.declared.fault.TelegramFault.{TelegramFault}
-use Rattle.telegram.specs.declared.fault.TelegramFault.TheVariants.{Lengths}
 use Rattle.telegram.specs.declared.parts.Places.{Places}
 use Rattle.telegram.specs.Calls.{around, framing, roomy}
 use Rattle.telegram.specs.Format.{Parts, two, written}
 use Rattle.telegram.specs.Header.{Heading, header_bytes}
 use Rattle.telegram.specs.Places.{layout}
 use Rattle.station.specs.Steps.{telegram_under}
+use Rattle.station.proofs.Telling.{past_one}
 
 -- ---- the bytes before the tag
 
@@ -59,11 +58,7 @@ module _ (p : Parts) (tag_long : length p.tag ≡ 16) where
 -- ---- a frame that was written
 
 framed : (h : Heading) (out b : List ℕ) → framing h out ≡ Ok b → b ≡ written (around h out)
-framed h out b frames = only (roomy (length (header_bytes h)) (length out)) (written (around h out)) b frames
-  where
-    only : (fits : Bool) (x y : List ℕ) → ◌≡◌ {A = Result (List ℕ) TelegramFault} (cond fits (Ok x) (Err Lengths)) (Ok y) → y ≡ x
-    only true x y e = cc
-    only false x y e = let z : ◌≡◌ {A = ℕ} 0 1 = cc in absurd (omega arith)
+framed h out b = past_one (written (around h out)) (roomy (length (header_bytes h)) (length out)) b
 
 -- what was sealed in its place
 pub telegram_written : (k : Keys) (h : Heading) (message out b : List ℕ) (at : Places) (t : ℕ) (front text : List ℕ)

@@ -6,7 +6,7 @@ use mode::hbs::Hbs;
 /// What is known of a gauge under the key in force.
 #[derive(Clone, Copy)]
 pub struct Gauge {
-    // the last serial accepted from it; 0 where it has not been heard
+    // the last serial accepted from it; 0 where it has not been heard, so that any serial but 0 is above it
     pub(crate) last: u32,
 }
 

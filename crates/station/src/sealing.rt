@@ -74,12 +74,10 @@ impl Ledger {
         if out.len() < len {
             return Err(StationFault::OutputShort);
         }
-        if self.given == u32::MAX {
-            return Err(StationFault::SerialsGiven);
-        }
+        let serial = self.given.checked_add(1).ok_or(StationFault::SerialsGiven)?;
         let wear = self.wear.and_one(sizes)?;
-        outgoing.write(hbs, self.own, self.given + 1, &mut out[0..len])?;
-        self.given += 1;
+        outgoing.write(hbs, self.own, serial, &mut out[0..len])?;
+        self.given = serial;
         self.wear = wear;
         Ok(len)
     }

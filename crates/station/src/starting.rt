@@ -41,7 +41,7 @@ impl<C: Cipher, M: Multiplier> Station<C, M> {
         if self.ledger.is_some() {
             return Err(StationFault::AlreadyStarted);
         }
-        if own > MAX_GAUGE || allowance < MIN_ALLOWANCE || allowance > MAX_ALLOWANCE {
+        if own > MAX_GAUGE || !(MIN_ALLOWANCE..=MAX_ALLOWANCE).contains(&allowance) {
             return Err(StationFault::StartRange);
         }
         self.hbs
