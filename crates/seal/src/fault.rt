@@ -10,9 +10,9 @@ use std::fmt;
 #[derive(Clone, Copy, PartialEq, Eq, Debug)]
 pub enum SealFault {
     /// The key, the header, the tag buffer or the text is not of a size that is taken.
-    Size,
+    Size = 4,
     /// The hash of what was opened is not the one that the tag stands for.
-    Mismatch,
+    Mismatch = 14,
 }
 
 impl SealFault {
@@ -20,14 +20,10 @@ impl SealFault {
     pub fn number(self) -> u32
         ensures { result ≡ refusal self }
     {
-        // numbers for refusals: the C interface and the lines show them
-        match self {
-            SealFault::Size => 4,
-            SealFault::Mismatch => 14,
-        }
+        self as u32
     }
 
-    /// What is wrong, in words.
+    /// What is wrong, in words. `Display` writes them, and a layer above passes them on with no heap.
     pub fn words(self) -> &'static str
         ensures { result.now ≡ words self }
     {
