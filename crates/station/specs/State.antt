@@ -5,6 +5,7 @@ use Rattle.cipher.specs.Scheme.{Scheme}
 use Rattle.cipher.specs.declared.Cipher as Cipher
 use Rattle.multiplier.specs.declared.Multiplier as Multiplier
 use Rattle.station.specs.declared.parts.Change.{Change}
+use Rattle.mode.specs.declared.hbs.Hbs.{Hbs}
 use Rattle.mode.specs.Keys.{keys}
 use Rattle.mode.specs.Sealing.{Keys}
 use Rattle.station.specs.declared.parts.Gauge.{Gauge}
@@ -77,6 +78,10 @@ started_with k l =
       used = use_of l.wear;
       pending = option_map waiting l.pending;
     }
+
+-- .. with what a cipher and a multiplier hold
+abbrev pub running : {C M : Type 0} → Cipher.Ghosts C → Multiplier.Ghosts M → Hbs C M → Ledger → State
+running c m h l = started_with (keys c m h) l
 
 abbrev pub holding : Keys → Option Ledger → State
 holding k None = unstarted k.scheme k.key k.hash_key

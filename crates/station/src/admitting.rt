@@ -1,9 +1,8 @@
 // Opening a telegram where it stands, which both openings do.
 ghost use Rattle.std.specs.Prelude.{◌≡◌};
-ghost use Rattle.mode.specs.Keys.{keys};
 ghost use Rattle.seal.specs.Watching.{SameBuffer};
 ghost use Rattle.station.specs.Admission.{Admits};
-ghost use Rattle.station.specs.State.{started_with};
+ghost use Rattle.station.specs.State.{running};
 
 use crate::admission::Admission;
 use crate::fault::StationFault;
@@ -25,7 +24,7 @@ impl Ledger {
         wanted: Kind,
         watch: &mut Watch<'_>,
     ) -> Result<Incoming, StationFault>
-        ensures admits { Admits (started_with (keys C.Cipher M.Multiplier hbs.now) self.old) wanted watch.old.bytes.now result watch.new.bytes.now (started_with (keys C.Cipher M.Multiplier hbs.now) self.new) }
+        ensures admits { Admits (running C.Cipher M.Multiplier hbs.now self.old) wanted watch.old.bytes.now result watch.new.bytes.now (running C.Cipher M.Multiplier hbs.now self.new) }
         ensures holds { watch.new.released ≡ watch.old.released }
         ensures same { SameBuffer watch.old watch.new }
     {

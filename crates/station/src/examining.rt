@@ -1,10 +1,9 @@
 // The tests of an opening before the last, which both openings run.
 ghost use Rattle.std.specs.Prelude.{◌≡◌, ℕ, List, Some, None, MatchResult};
-ghost use Rattle.mode.specs.Keys.{keys};
 ghost use Rattle.station.specs.Admission.{Admitted};
 ghost use Rattle.station.specs.Answers.{refusal};
 ghost use Rattle.station.specs.Incoming.{Told};
-ghost use Rattle.station.specs.State.{started_with};
+ghost use Rattle.station.specs.State.{running};
 ghost use Rattle.station.specs.Tests.{admission, past, unwanted};
 
 use crate::admission::Admission;
@@ -33,7 +32,7 @@ impl Ledger {
         wanted: Kind,
         buffer: &[u8],
     ) -> Result<Admission, StationFault>
-        ensures { MatchResult result (Admitted (started_with (keys C.Cipher M.Multiplier hbs.now) self.now) wanted buffer.now) (λ fault. past (admission (started_with (keys C.Cipher M.Multiplier hbs.now) self.now) wanted buffer.now) Some None ≡ Some (refusal fault)) }
+        ensures { MatchResult result (Admitted (running C.Cipher M.Multiplier hbs.now self.now) wanted buffer.now) (λ fault. past (admission (running C.Cipher M.Multiplier hbs.now self.now) wanted buffer.now) Some None ≡ Some (refusal fault)) }
     {
         let incoming = Incoming::read(buffer)?;
         if incoming.is_unwanted(wanted, &hbs.cipher) {

@@ -9,14 +9,14 @@ use telegram::header::Header;
 use telegram::kind::Kind;
 use telegram::parts::Places;
 use telegram::reading::fields;
-use telegram::sizes::Sizes;
+use telegram::sizes::{MAX_HEADER, Sizes};
 
 #[derive(Drop)]
 pub(crate) struct Incoming {
     pub(crate) gauge: u8,
     pub(crate) serial: u32,
     pub(crate) kind: Kind,
-    pub(crate) header: ArrayVec<u8, 1024>,
+    pub(crate) header: ArrayVec<u8, MAX_HEADER>,
     pub(crate) sizes: Sizes,
     pub(crate) tag: Block,
     pub(crate) places: Places,

@@ -2,7 +2,7 @@
 ghost use Rattle.std.specs.Prelude.{◌≡◌, ◌+◌, false, [], length, MatchResult};
 ghost use Rattle.mode.specs.Keys.{keys};
 ghost use Rattle.station.specs.Calls.{Sealed};
-ghost use Rattle.station.specs.State.{started_with, view};
+ghost use Rattle.station.specs.State.{running, view};
 ghost use Rattle.station.specs.Steps.{Sealing, answered, not_a_key, out_of_size, telegram_under};
 ghost use Rattle.telegram.specs.Kind.{kind_byte};
 
@@ -67,7 +67,7 @@ impl Ledger {
         outgoing: &Outgoing<'_>,
         out: &mut [u8],
     ) -> Result<usize, StationFault>
-        ensures { Sealing (started_with (keys C.Cipher M.Multiplier hbs.now) self.old) (kind_byte outgoing.now.kind) false outgoing.now.note.now outgoing.now.message.now out.old (answered Sealed result) out.new (started_with (keys C.Cipher M.Multiplier hbs.now) self.new) }
+        ensures { Sealing (running C.Cipher M.Multiplier hbs.now self.old) (kind_byte outgoing.now.kind) false outgoing.now.note.now outgoing.now.message.now out.old (answered Sealed result) out.new (running C.Cipher M.Multiplier hbs.now self.new) }
     {
         let sizes = outgoing.sizes();
         let len = FIXED_BYTES + sizes.header + sizes.message;

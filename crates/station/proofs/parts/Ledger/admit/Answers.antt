@@ -1,9 +1,8 @@
 use Rattle.std.proofs.Common.{◌≡◌, ℕ, true, false, List, Some, None, refl, ap, ◌∙◌, subst}
 use Rattle.std.proofs.lemmas.Result.{err_from_is_err_and}
-use Rattle.mode.specs.Keys.{keys}
 use Rattle.station.specs.Admission.{Admitted}
 use Rattle.station.specs.Answers.{refusal}
-use Rattle.station.specs.State.{started_with}
+use Rattle.station.specs.State.{running}
 use Rattle.station.specs.Steps.{with_message}
 use Rattle.station.specs.Tests.{admission, message, past}
 use Rattle.station.proofs.Opens.{accepts, counts, heard_told, mismatched, no_message, part_message, passed, some_message, stays, stopped, with_use}
@@ -11,7 +10,7 @@ use Rattle.station.proofs.parts.Ledger.admit.Goals as goal
 
 pub returns-in_err-incoming-clause-admits : goal.returns-in_err-incoming-clause-admits
 returns-in_err-incoming-clause-admits g c =
-    let s = started_with (keys g.C.Cipher g.M.Multiplier c.args.hbs.now) c.args.self.now in
+    let s = running g.C.Cipher g.M.Multiplier c.args.hbs.now c.args.self.now in
     let b = c.args.watch.now.bytes.now in
     let n = refusal c.in_err-incoming.field-0.0 in
     let from = err_from_is_err_and c.from_residual.result c.from_residual.ensures.1 in
@@ -24,7 +23,7 @@ returns-in_err-incoming-clause-admits g c =
 
 pub returns-then-not-open_part-clause-admits : goal.returns-then-not-open_part-clause-admits
 returns-then-not-open_part-clause-admits g c =
-    let s = started_with (keys g.C.Cipher g.M.Multiplier c.args.hbs.now) c.args.self.now in
+    let s = running g.C.Cipher g.M.Multiplier c.args.hbs.now c.args.self.now in
     let b = c.args.watch.now.bytes.now in
     let x = c.in_ok-incoming.field-0 in
     let admitted : Admitted s c.args.wanted b x = subst (λ (z : List ℕ). Admitted s c.args.wanted z x) c.contents.ensures c.in_ok-incoming.ensures in
@@ -38,8 +37,7 @@ returns-then-not-open_part-clause-admits g c =
 
 pub returns-clause-admits : goal.returns-clause-admits
 returns-clause-admits g c =
-    let k = keys g.C.Cipher g.M.Multiplier c.args.hbs.now in
-    let s = started_with k c.args.self.now in
+    let s = running g.C.Cipher g.M.Multiplier c.args.hbs.now c.args.self.now in
     let b = c.args.watch.now.bytes.now in
     let x = c.in_ok-incoming.field-0 in
     let admitted : Admitted s c.args.wanted b x = subst (λ (z : List ℕ). Admitted s c.args.wanted z x) c.contents.ensures c.in_ok-incoming.ensures in
@@ -55,7 +53,7 @@ returns-clause-admits g c =
         leaves = found.2;
       };
       moves =
-          ap (started_with k) c.hear.ensures
+          ap (running g.C.Cipher g.M.Multiplier c.args.hbs.now) c.hear.ensures
           ∙ heard_told s b x.incoming admitted.told x.sender.number _ admitted.sender admitted.wear
           ∙ accepts s c.args.wanted b admitted.passed found.0 found.1;
       long = c.open_part.ensures.len;

@@ -1,15 +1,14 @@
 use Rattle.std.proofs.Common.{sym, ap, ◌∙◌, rules}
 use Rattle.std.specs.Option.{option_copied_mut}
 use Rattle.std.proofs.lemmas.Result.{err_from_is_err_and}
-use Rattle.mode.specs.Keys.{keys}
 use Rattle.station.specs.Answers.{refusal}
-use Rattle.station.specs.State.{started_with}
+use Rattle.station.specs.State.{running}
 use Rattle.station.proofs.Opens.{accepted, answers_told, refused}
 use Rattle.station.proofs.parts.Station.open.Goals as goal
 
 pub returns-in_err-incoming : goal.returns-in_err-incoming
 returns-in_err-incoming g c =
-    let s = started_with (keys g.C.Cipher g.M.Multiplier c.args.self.now.hbs) c.in_ok-ledger.ledger.now in
+    let s = running g.C.Cipher g.M.Multiplier c.args.self.now.hbs c.in_ok-ledger.ledger.now in
     let admit = c.in_err-incoming.ensures.admits in
     let from = err_from_is_err_and c.from_residual-in_err-incoming.result c.from_residual-in_err-incoming.ensures.1 in
     rw (sym c.as_mut.ensures.value ∙ ap option_copied_mut c.in_ok-ledger.ensures.ok_part)
@@ -17,7 +16,7 @@ returns-in_err-incoming g c =
 
 pub returns : goal.returns
 returns g c =
-    let s = started_with (keys g.C.Cipher g.M.Multiplier c.args.self.now.hbs) c.in_ok-ledger.ledger.now in
+    let s = running g.C.Cipher g.M.Multiplier c.args.self.now.hbs c.in_ok-ledger.ledger.now in
     let b = c.args.buffer.now in
     let admit = c.in_ok-incoming.ensures.admits in
     let opens = admit.answers in

@@ -7,7 +7,7 @@ use Rattle.std.specs.List.{flat_map}
 use Rattle.mode.specs.Keys.{keys}
 use Rattle.station.specs.Calls.{Reported}
 use Rattle.station.specs.Reports.{entry, heard_gauges}
-use Rattle.station.specs.State.{started_with, unstarted}
+use Rattle.station.specs.State.{running, unstarted}
 use Rattle.station.proofs.Listed.{joined, reports, reports_idle, reports_short}
 use Rattle.station.proofs.parts.Station.report.Goals as goal
 
@@ -20,14 +20,14 @@ returns-in_err-ledger g c =
 
 pub returns-then-out-bytes : goal.returns-then-out-bytes
 returns-then-out-bytes g c =
-    let s = started_with (keys g.C.Cipher g.M.Multiplier c.args.self.now.hbs) c.in_ok-ledger.ledger.now in
+    let s = running g.C.Cipher g.M.Multiplier c.args.self.now.hbs c.in_ok-ledger.ledger.now in
     let is = c.deref.ensures.0 ∙ c.entries-entries.ensures in
     let short : length c.args.out.now < 5 * length (heard_gauges s) = omega (arith, c.if-out-bytes.true, c.as_flattened-bytes.ensures.len, ap length is, length-map (heard_gauges s) (entry s.gauges)) in
     rw (sym c.as_ref.ensures.value ∙ ap option_copied c.in_ok-ledger.ensures.ok_part) (reports_short s c.args.out.now refl (lt-ltb _ _ short) refl refl)
 
 pub returns : goal.returns
 returns g c =
-    let s = started_with (keys g.C.Cipher g.M.Multiplier c.args.self.now.hbs) c.in_ok-ledger.ledger.now in
+    let s = running g.C.Cipher g.M.Multiplier c.args.self.now.hbs c.in_ok-ledger.ledger.now in
     let heard = heard_gauges s in
     let count = length-map heard (entry s.gauges) in
     let is = c.deref.ensures.0 ∙ c.entries-entries.ensures in
