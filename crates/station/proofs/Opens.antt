@@ -99,18 +99,7 @@ second_false false y e = let z : ◌≡◌ {A = ℕ} 0 1 = cc in absurd (omega a
 
 -- the state with another change that waits
 abbrev pub with_pending : Option Waiting → State → State
-with_pending p s =
-    record {
-      scheme = s.scheme;
-      key = s.key;
-      hash_key = s.hash_key;
-      started = s.started;
-      own = s.own;
-      given = s.given;
-      gauges = s.gauges;
-      used = s.used;
-      pending = p;
-    }
+with_pending p s = record s { pending = p }
 
 -- the own gauge stays
 pub own_stays : (s : State) (b : List ℕ) (t : State) → t ≡ past (opening_tests s Key b) (refusing s b) (accepting s.pending s b)
@@ -172,33 +161,11 @@ some_message (Some m) f y e = (m, refl, cc)
 
 -- the state with another use
 abbrev pub with_use : State → Use → State
-with_use s u =
-    record {
-      scheme = s.scheme;
-      key = s.key;
-      hash_key = s.hash_key;
-      started = s.started;
-      own = s.own;
-      given = s.given;
-      gauges = s.gauges;
-      used = u;
-      pending = s.pending;
-    }
+with_use s u = record s { used = u }
 
 -- .. and another last serial of a gauge
 abbrev pub with_heard : State → ℕ → ℕ → Use → State
-with_heard s g n u =
-    record {
-      scheme = s.scheme;
-      key = s.key;
-      hash_key = s.hash_key;
-      started = s.started;
-      own = s.own;
-      given = s.given;
-      gauges = set s.gauges g (record { last = n });
-      used = u;
-      pending = s.pending;
-    }
+with_heard s g n u = record s { gauges = set s.gauges g (record { last = n }); used = u }
 
 module _ (s : State) (b : List ℕ) (i : Incoming) (told : Told b i) where
   pub answers_told : Opened i.gauge i.serial i.places.header i.places.ciphertext ≡ opened_at s b

@@ -16,14 +16,7 @@ use Rattle.station.specs.Use.{counted, use_of}
 
 -- a gauge's serial is heard
 abbrev pub heard : ℕ → ℕ → Ledger → Ledger
-heard gauge serial l =
-    record {
-      own = l.own;
-      given = l.given;
-      gauges = slice_set l.gauges gauge (record { last = serial });
-      wear = l.wear;
-      pending = l.pending;
-    }
+heard gauge serial l = record l { gauges = slice_set l.gauges gauge (record { last = serial }) }
 
 -- the tests of an opening of b were passed, with what is told of the telegram and the wear counted
 pub record Admitted (s : State) (wanted : Kind) (b : List ℕ) (x : Admission) : Type 0 where

@@ -65,18 +65,7 @@ not_a_key s key = not (length key == s.scheme.key_len)
 
 -- one more serial is given, and one more call counted
 abbrev pub given : State → ℕ → ℕ → State
-given s header message =
-    record {
-      scheme = s.scheme;
-      key = s.key;
-      hash_key = s.hash_key;
-      started = s.started;
-      own = s.own;
-      given = s.given + 1;
-      gauges = s.gauges;
-      used = counted header message s.used;
-      pending = s.pending;
-    }
+given s header message = record s { given = s.given + 1; used = counted header message s.used }
 
 pub record Sealing (s : State) (kind : ℕ) (out_of_size : Bool) (note message out : List ℕ) (a : Answer) (b : List ℕ) (t : State) : Type 0 where
   pub answers : a ≡ past (seal_tests s out_of_size note message out) Refused (SealedAt (27 + length note + length message))
@@ -93,29 +82,12 @@ with_message m b =
 
 -- one more opening is counted
 abbrev pub opening : State → List ℕ → State
-opening s b =
-    record {
-      scheme = s.scheme;
-      key = s.key;
-      hash_key = s.hash_key;
-      started = s.started;
-      own = s.own;
-      given = s.given;
-      gauges = s.gauges;
-      used = counted (length (parts b).header) (length (parts b).ciphertext) s.used;
-      pending = s.pending;
-    }
+opening s b = record s { used = counted (length (parts b).header) (length (parts b).ciphertext) s.used }
 
 -- .. and was accepted: its serial is the gauge's last, and p is the change that is pending
 abbrev pub accepting : Option Waiting → State → List ℕ → State
 accepting p s b =
-    record {
-      scheme = s.scheme;
-      key = s.key;
-      hash_key = s.hash_key;
-      started = s.started;
-      own = s.own;
-      given = s.given;
+    record s {
       gauges = slice_set s.gauges (heading s b).gauge (record { last = (heading s b).serial });
       used = counted (length (parts b).header) (length (parts b).ciphertext) s.used;
       pending = p;
@@ -154,18 +126,7 @@ pub record KeyOpening (s : State) (b : List ℕ) (a : Answer) (b' : List ℕ) (t
 -- ---- declining
 
 abbrev pub dropped : State → State
-dropped s =
-    record {
-      scheme = s.scheme;
-      key = s.key;
-      hash_key = s.hash_key;
-      started = s.started;
-      own = s.own;
-      given = s.given;
-      gauges = s.gauges;
-      used = s.used;
-      pending = None;
-    }
+dropped s = record s { pending = None }
 
 pub record Declining (s : State) (o : Order) (a : Answer) (t : State) : Type 0 where
   pub answers : a ≡ past (order_tests s o) Refused Done
