@@ -1,5 +1,5 @@
 -- A report: which gauges were heard under the key in force, with the last serial accepted from each.
-use Rattle.std.specs.Prelude.{◌≡◌, ℕ, zero, suc, ◌*◌, Bool, cond, not, List, [], ◌∷◌, ◌++◌, length, drop, ◌==◌, nat_lt}
+use Rattle.std.specs.Prelude.{◌≡◌, ℕ, zero, suc, ◌*◌, Bool, if◌then◌else◌, not, List, [], ◌∷◌, ◌++◌, length, drop, ◌==◌, nat_lt}
 use Rattle.std.specs.List.Sorted.{IsPermutation}
 use Rattle.telegram.specs.Header.{four}
 use Rattle.station.specs.declared.parts.Gauge.{Gauge}
@@ -14,7 +14,7 @@ is_heard gauges g = not (last_of g gauges == 0)
 -- of the n first gauges, those that were heard
 unfoldable pub heard_of : List Gauge → ℕ → List ℕ
 heard_of gauges zero = []
-heard_of gauges (suc n) = heard_of gauges n ++ cond (is_heard gauges n) (n ∷ []) []
+heard_of gauges (suc n) = heard_of gauges n ++ (if is_heard gauges n then n ∷ [] else [])
 
 -- five bytes: the gauge and its last serial
 abbrev pub entry : List Gauge → ℕ → List ℕ

@@ -1,5 +1,5 @@
 -- What each call answers, what it leaves in its buffer, and what the station holds then.
-use Rattle.std.specs.Prelude.{◌≡◌, ℕ, ◌+◌, Bool, true, cond, not, ◌||◌, List, [], ◌++◌, length, take, drop, Some, None, Ok, Err, Option, Result, ◌==◌, nat_lt, slice_set}
+use Rattle.std.specs.Prelude.{◌≡◌, ℕ, ◌+◌, Bool, true, if◌then◌else◌, not, ◌||◌, List, [], ◌++◌, length, take, drop, Some, None, Ok, Err, Option, Result, ◌==◌, nat_lt, slice_set}
 use Rattle.std.specs.Option.{unwrap_or}
 use Rattle.block.specs.Bytes.{bytes}
 use Rattle.mode.specs.Sealing.{Keys, sealed_with}
@@ -95,7 +95,7 @@ accepting p s b =
 
 -- no refusal alters the station, except that 14 is counted
 abbrev pub refusing : State → List ℕ → ℕ → State
-refusing s b n = cond (n == 14) (opening s b) s
+refusing s b n = if n == 14 then opening s b else s
 
 -- what an accepted opening of a measurement answers
 abbrev pub opened_at : State → List ℕ → Answer

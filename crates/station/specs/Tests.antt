@@ -1,5 +1,5 @@
 -- The tests that each call runs, by their numbers and in their order; a test refuses where its row holds.
-use Rattle.std.specs.Prelude.{ℕ, ◌+◌, ◌-◌, ◌^◌, Bool, true, false, cond, not, ◌&&◌, ◌||◌, List, [], ◌∷◌, ◌++◌, length, is_some, Some, None, Option, ◌==◌, nat_le, nat_lt}
+use Rattle.std.specs.Prelude.{ℕ, ◌+◌, ◌-◌, ◌^◌, Bool, true, false, if◌then◌else◌, not, ◌&&◌, ◌||◌, List, [], ◌∷◌, ◌++◌, length, is_some, Some, None, Option, ◌==◌, nat_le, nat_lt}
 use Rattle.block.specs.Bytes.{spelled}
 use Rattle.mode.specs.Sealing.{opened_by, pair}
 use Rattle.telegram.specs.Format.{lengths_fit, other_version, parts}
@@ -17,7 +17,7 @@ Test = ℕ × Bool
 -- what comes of tests: what the first that refuses gives, or else what is accepted
 abbrev pub past : {X : Type 0} → List Test → (ℕ → X) → X → X
 past [] refused accepted = accepted
-past (t ∷ ts) refused accepted = cond t.1 (refused t.0) (past ts refused accepted)
+past (t ∷ ts) refused accepted = if t.1 then refused t.0 else past ts refused accepted
 
 -- a gauge that is none of the sixteen, or the own one
 abbrev pub unknown : ℕ → ℕ → Bool
