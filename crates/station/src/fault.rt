@@ -38,6 +38,7 @@ impl StationFault {
     pub fn number(self) -> u32
         ensures { result ≡ refusal self }
     {
+        // no discriminants: two variants hold a lower layer's fault, whose number is its own
         match self {
             StationFault::Telegram(fault) => fault.number(),
             StationFault::Seal(fault) => fault.number(),
