@@ -1,8 +1,8 @@
 // Speck64/128 (Beaulieu, Shors, Smith, Treatman-Clark, Weeks and Wingers, 2013).
 ghost use Rattle.half_cipher.specs.Rounds.{keys_of};
-ghost use Rattle.half_cipher.specs.Speck.{Schedule, first, next, round, round_key, speck, unround};
+ghost use Rattle.half_cipher.specs.Speck.{round, round_key, speck, unround};
 ghost use Rattle.half_cipher.specs.Words.{words_of_key};
-ghost use Rattle.std.specs.Prelude.{ℕ, ◌<◌, get_or, ◌≡◌};
+ghost use Rattle.std.specs.Prelude.{◌≡◌};
 ghost use Rattle.half_cipher.specs.SpeckLaws.{speck_lawful};
 
 use crate::words::{Words, join, split};
@@ -32,7 +32,8 @@ fn undo_round(k: u32, v: Words) -> Words
     ((x ^ k).wrapping_sub(y).rotate_left(8), y)
 }
 
-/// The keys of the rounds. The schedule is the round itself, on l and k, with the round's number in the place of its key.
+/// The keys of the rounds. The schedule is the round itself, on l and k, with the round's number in the place of its
+/// key.
 fn round_keys(key: &HalfKey) -> [u32; ROUNDS]
     ensures { result ≡ keys_of (round_key (words_of_key key.now)) ROUNDS }
 {

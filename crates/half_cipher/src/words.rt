@@ -3,7 +3,7 @@ ghost use Rattle.half_cipher.specs.Pairs.{joined, parted};
 ghost use Rattle.std.specs.Prelude.{◌≡◌};
 
 /// The two words of a half, the first one most significant.
-// split and join by name and no From: a pair says nothing of an order, and a struct for it would be taken apart in each round
+// split and join by name and no From: a pair says nothing of an order, and a struct would be taken apart in each round
 pub(crate) type Words = (u32, u32);
 
 pub(crate) fn split(half: u64) -> Words

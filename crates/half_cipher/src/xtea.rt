@@ -63,7 +63,7 @@ impl HalfCipher for Xtea {
     fn forward(&self, key: &HalfKey, half: u64) -> u64 {
         let k = be_words(*key);
         let mut v = split(half);
-        // a loop by number: a cycle's sums come from its number, and a fold would have to show at each call that i + 1 fits
+        // a loop by number: the sums come from it, and a fold would have to show each time that i + 1 fits
         for i in 0..CYCLES {
             v = cycle_at(&k, sum_at(i), sum_at(i + 1), v);
         }
