@@ -4,7 +4,7 @@ ghost use Rattle.fips197.specs.Cipher.{inv_cipher};
 ghost use Rattle.fips197.specs.State.{inv_mix_columns, inv_shift_rows, inv_sub_bytes};
 ghost use Rattle.std.specs.Prelude.{◌≡◌, map};
 
-use crate::columns::{Columns, row, substituted};
+use crate::columns::{Columns, substituted};
 use aes_tables::inv_mix;
 use fips197::InvSubBytes;
 
