@@ -6,6 +6,7 @@ ghost use Rattle.std.specs.Option.{option_copied};
 ghost use Rattle.std.specs.Prelude.{◌≡◌, length, is_ok, if◌then◌else◌, Some, None, ◌==◌};
 
 use crate::hash::hash;
+use crate::mismatch::Mismatch;
 use crate::stream::apply_stream;
 use block::Block;
 use cipher::{Cipher, WrongKeyLen};
@@ -46,14 +47,18 @@ impl<C: Cipher, M: Multiplier> Hbs<C, M> {
         self.cipher.encipher(start)
     }
 
-    /// Takes the stream off `text` in place, and answers whether what is left is authentic. Where it is not,
-    /// it still stands in `text`: the caller clears it.
-    pub fn open(&self, header: Option<&[u8]>, tag: Block, text: &mut [u8]) -> bool
-        ensures opens { (if result then Some text.new else None) ≡ opened_with (keys C.Cipher M.Multiplier self.now) (option_copied header.entry) (pair (num tag) text.old) }
+    /// Takes the stream off `text` in place. Refused where what is left is not authentic: it still stands in `text`
+    /// then, and the caller clears it.
+    pub fn open(&self, header: Option<&[u8]>, tag: Block, text: &mut [u8]) -> Result<(), Mismatch>
+        ensures opens { (if is_ok result then Some text.new else None) ≡ opened_with (keys C.Cipher M.Multiplier self.now) (option_copied header.entry) (pair (num tag) text.old) }
         ensures leaves { text.new ≡ streamed_with (keys C.Cipher M.Multiplier self.now) (num tag) text.old }
     {
         let start = self.cipher.decipher(tag);
         apply_stream(&self.cipher, start, text);
-        hash(&self.multiplier, header, text) == start
+        if hash(&self.multiplier, header, text) == start {
+            Ok(())
+        } else {
+            Err(Mismatch)
+        }
     }
 }

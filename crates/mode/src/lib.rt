@@ -3,6 +3,7 @@
 
 pub mod hash;
 pub mod hbs;
+pub mod mismatch;
 mod padding;
 pub mod stream;
 

@@ -11,7 +11,7 @@ fn xor_into(part: &mut [u8], key: [u8; 16])
     requires { length part.old ≤ 16 }
     ensures { part.new ≡ xors part.old key }
 {
-    // not by `zip`: once that ends, a proof knows how long the part is, and not its bytes
+    // tried `zip` with the key: once that ends, a proof knows how long the part is, and not its bytes
     for (i, byte) in part.iter_mut().enumerate() {
         *byte ^= key[i];
     }
@@ -30,7 +30,7 @@ pub fn apply_stream<C: Cipher>(cipher: &C, start: Block, text: &mut [u8])
     ensures { text.new ≡ streamed ((C.scheme cipher.now).enc (C.loaded cipher.now)) (num start) text.old }
 {
     let n = text.len();
-    // parts by index, and not by `chunks_mut`: once that ends, a proof knows how long the text is, and not its bytes
+    // tried `chunks_mut` and `split_at_mut`: once they end, a proof knows how long the text is, and not its bytes
     for i in 0..n.div_ceil(16) {
         let key = cipher.encipher(counter(start, i)).to_bytes();
         let at = 16 * i;

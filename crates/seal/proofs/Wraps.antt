@@ -85,13 +85,13 @@ module _ (s : Scheme) (k : List ℕ) (h : Option (List ℕ)) (t x : List ℕ) wh
           refuses = λ _ no_one. absurd (no_one m reseals);
         }
 
-    pub refuses : {y : List ℕ} → opened s k h (given t x) ≡ None → y ≡ cleared x → Unwrapped s k h t x (refusal Mismatch) y
-    refuses opens is =
+    pub refuses : {y : List ℕ} {r : ℕ} → opened s k h (given t x) ≡ None → y ≡ cleared x → r ≡ refusal Mismatch → Unwrapped s k h t x r y
+    refuses opens is named =
         record {
-          answers = answer_past None opens;
+          answers = named ∙ answer_past None opens;
           leaves = is ∙ sym (left-past fits opens);
           reseals = λ e. absurd (omega arith);
           only = λ e m seals. absurd (omega arith);
           refused = λ _. (inverses s k h law key).refused (given t x) opens;
-          refuses = λ _ no_one. refl;
+          refuses = λ _ no_one. named;
         }

@@ -1,9 +1,10 @@
 // Why a message is not wrapped or unwrapped.
 ghost use Rattle.seal.specs.Answers.{refusal, words};
-ghost use Rattle.seal.specs.declared.fault.SealFault.TheVariants.{Size};
+ghost use Rattle.seal.specs.declared.fault.SealFault.TheVariants.{Mismatch, Size};
 ghost use Rattle.std.specs.Prelude.{◌≡◌, Some};
 
 use cipher::WrongKeyLen;
+use mode::mismatch::Mismatch;
 use std::error::Error;
 use std::fmt;
 
@@ -23,7 +24,7 @@ impl SealFault {
         self as u32
     }
 
-    /// What is wrong, in words. `Display` writes them, and a layer above passes them on with no heap.
+    /// What is wrong, in words. They have a clause of their own; `Display` is one line over them.
     pub fn words(self) -> &'static str
         ensures { result.now ≡ words self }
     {
@@ -39,6 +40,14 @@ impl From<WrongKeyLen> for SealFault {
 
     fn from(_wrong: WrongKeyLen) -> Self {
         Self::Size
+    }
+}
+
+impl From<Mismatch> for SealFault {
+    ghost from_gives = { λ _ fault. fault ≡ Mismatch };
+
+    fn from(_mismatch: Mismatch) -> Self {
+        Self::Mismatch
     }
 }
 

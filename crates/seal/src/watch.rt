@@ -7,8 +7,10 @@ ghost use Rattle.seal.specs.Watching.{SameBuffer};
 ghost use Rattle.seal.specs.Wrapping.{cleared, part_mapped, part_opened};
 ghost use Rattle.std.specs.Option.{option_copied};
 ghost use Rattle.std.specs.List.{between};
-ghost use Rattle.std.specs.Prelude.{◌≡◌, true, length, if◌then◌else◌, Some, None};
+ghost use Rattle.seal.specs.declared.fault.SealFault.TheVariants.{Mismatch};
+ghost use Rattle.std.specs.Prelude.{◌≡◌, true, length, if◌then◌else◌, is_ok, IfErr, OnErr, OnOk, Some, None};
 
+use crate::fault::SealFault;
 use crate::sizes::sizes_fit;
 use block::Block;
 use cipher::Cipher;
@@ -50,14 +52,16 @@ impl Watch<'_> {
         hbs: &Hbs<C, M>,
         header: Option<&[u8]>,
         tag: Block,
-    ) -> bool
-        ensures opens { (if result then Some self.new.bytes.now else None) ≡ opened_with (keys C.Cipher M.Multiplier hbs.now) (option_copied header.entry) (pair (num tag) self.old.bytes.now) }
-        ensures releases { self.new.released ≡ result }
+    ) -> Result<(), SealFault>
+        ensures opens { (if is_ok result then Some self.new.bytes.now else None) ≡ opened_with (keys C.Cipher M.Multiplier hbs.now) (option_copied header.entry) (pair (num tag) self.old.bytes.now) }
+        ensures fault { IfErr result (λ fault. fault ≡ Mismatch) }
+        ensures releases { OnOk result (self.new.released ≡ true) }
+        ensures holds { OnErr result (self.new.released ≡ self.old.released) }
         ensures same { SameBuffer self.old self.new }
     {
-        let authentic = hbs.open(header, tag, self.bytes);
-        self.released = authentic;
-        authentic
+        hbs.open(header, tag, self.bytes)?;
+        self.release();
+        Ok(())
     }
 
     /// What stands under the watch.
@@ -67,9 +71,9 @@ impl Watch<'_> {
         self.bytes
     }
 
-    /// Opens the bytes from `start` up to `end` where they stand, and answers whether they are authentic. They are under
-    /// the watch still, and so is what stands there where they are not. A place that is not within the bytes is answered
-    /// no, and alters nothing.
+    /// Opens the bytes from `start` up to `end` where they stand. They are under the watch still, and so is what stands
+    /// there where they are not authentic, which `Mismatch` refuses. It refuses a place that is not within the bytes too,
+    /// which alters nothing.
     pub fn open_part<C: Cipher, M: Multiplier>(
         &mut self,
         hbs: &Hbs<C, M>,
@@ -77,17 +81,19 @@ impl Watch<'_> {
         tag: Block,
         start: usize,
         end: usize,
-    ) -> bool
-        ensures opens { (if result then Some self.new.bytes.now else None) ≡ part_opened start end (opened_with (keys C.Cipher M.Multiplier hbs.now) (Some header.now) (pair (num tag) (between start end self.old.bytes.now))) self.old.bytes.now }
+    ) -> Result<(), SealFault>
+        ensures opens { (if is_ok result then Some self.new.bytes.now else None) ≡ part_opened start end (opened_with (keys C.Cipher M.Multiplier hbs.now) (Some header.now) (pair (num tag) (between start end self.old.bytes.now))) self.old.bytes.now }
         ensures leaves { self.new.bytes.now ≡ part_mapped start end (streamed_with (keys C.Cipher M.Multiplier hbs.now) (num tag)) self.old.bytes.now }
+        ensures fault { IfErr result (λ fault. fault ≡ Mismatch) }
         ensures len { length self.new.bytes.now ≡ length self.old.bytes.now }
         ensures holds { self.new.released ≡ self.old.released }
         ensures same { SameBuffer self.old self.new }
     {
         if start > end || end > self.bytes.len() {
-            return false;
+            return Err(SealFault::Mismatch);
         }
-        hbs.open(Some(header), tag, &mut self.bytes[start..end])
+        hbs.open(Some(header), tag, &mut self.bytes[start..end])?;
+        Ok(())
     }
 
     /// Releases the bytes: they stay as they stand.

@@ -59,8 +59,6 @@ pub fn unwrap<C: Cipher, M: Multiplier>(
         return Err(SealFault::Size);
     }
     hbs.load(key)?;
-    if !watch.open(hbs, header, Block::from_bytes(*tag)) {
-        return Err(SealFault::Mismatch);
-    }
+    watch.open(hbs, header, Block::from_bytes(*tag))?;
     Ok(())
 }

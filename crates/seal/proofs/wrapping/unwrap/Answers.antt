@@ -5,8 +5,8 @@ use Rattle.seal.specs.Sizes.{sized}
 use Rattle.seal.proofs.Wraps.{past, opens_held, unwraps, refuses}
 use Rattle.seal.proofs.wrapping.unwrap.Goals as goal
 
-pub returns-then-not-open-clause-opens : goal.returns-then-not-open-clause-opens
-returns-then-not-open-clause-opens g c =
+pub returns-in_err-open-clause-opens : goal.returns-in_err-open-clause-opens
+returns-in_err-open-clause-opens g c =
     let s = g.C.Cipher.scheme c.args.hbs.now.cipher in
     let k = c.args.key.now in
     let h = option_copied c.args.header in
@@ -14,8 +14,8 @@ returns-then-not-open-clause-opens g c =
     let x = c.args.text.now in
     let load = c.in_ok-load.ensures in
     let fits : sized s k h t x ≡ true = past s k h t x (search rules) (sym c.if-not-fits.ensures) (sym load.fits) in
-    let opens = opens_held h t x load.keys (c.from_bytes.ensures ∙ ap spelled (search rules)) c.if-not-open.ensures.opens in
-    refuses s k h t x (g.met.C.Cipher.lawful c.args.hbs.now.cipher) (λ i _. search rules) (λ i _. search rules) fits opens (search rules)
+    let opens = opens_held h t x load.keys (c.from_bytes.ensures ∙ ap spelled (search rules)) c.in_err-open.ensures.opens in
+    refuses s k h t x (g.met.C.Cipher.lawful c.args.hbs.now.cipher) (λ i _. search rules) (λ i _. search rules) fits opens (search rules) (search rules)
 
 pub returns-clause-opens : goal.returns-clause-opens
 returns-clause-opens g c =
@@ -26,5 +26,5 @@ returns-clause-opens g c =
     let x = c.args.text.now in
     let load = c.in_ok-load.ensures in
     let fits : sized s k h t x ≡ true = past s k h t x (search rules) (sym c.if-not-fits.ensures) (sym load.fits) in
-    let opens = opens_held h t x load.keys (c.from_bytes.ensures ∙ ap spelled (search rules)) c.if-not-open.ensures.opens in
+    let opens = opens_held h t x load.keys (c.from_bytes.ensures ∙ ap spelled (search rules)) c.in_ok-open.ensures.opens in
     unwraps s k h t x (g.met.C.Cipher.lawful c.args.hbs.now.cipher) (λ i _. search rules) (λ i _. search rules) fits opens (search rules)
