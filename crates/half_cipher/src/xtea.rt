@@ -1,5 +1,5 @@
 // XTEA with 32 cycles (Needham and Wheeler, 1997).
-ghost use Rattle.half_cipher.specs.Xtea.{addend, cycle, mixed, sum_at, uncycle, xtea};
+ghost use Rattle.half_cipher.specs.Xtea.{addend, cycle_at, mixed, sum_at, uncycle_at, xtea};
 ghost use Rattle.std.specs.Prelude.{◌≡◌};
 ghost use Rattle.half_cipher.specs.XteaLaws.{xtea_lawful};
 
@@ -35,20 +35,24 @@ fn sum_at(i: u32) -> u32
     i.wrapping_mul(DELTA)
 }
 
-/// One cycle, from the sum before it to the sum after it.
-fn cycle_at(k: &[u32; 4], before: u32, after: u32, v: Words) -> Words
-    ensures { result ≡ cycle k.now before after v }
+/// Cycle `i`, from the sum before it to the sum after it.
+fn cycle_at(k: &[u32; 4], i: u32, v: Words) -> Words
+    ensures { result ≡ cycle_at k.now i v }
 {
+    let before = sum_at(i);
+    let after = before.wrapping_add(DELTA);
     let (v0, v1) = v;
     let v0 = v0.wrapping_add(addend(k, before, before, v1));
     let v1 = v1.wrapping_add(addend(k, after, after >> 11, v0));
     (v0, v1)
 }
 
-/// One cycle undone.
-fn undo_cycle(k: &[u32; 4], before: u32, after: u32, v: Words) -> Words
-    ensures { result ≡ uncycle k.now before after v }
+/// Cycle `i` undone.
+fn undo_cycle(k: &[u32; 4], i: u32, v: Words) -> Words
+    ensures { result ≡ uncycle_at k.now i v }
 {
+    let before = sum_at(i);
+    let after = before.wrapping_add(DELTA);
     let (v0, v1) = v;
     let v1 = v1.wrapping_sub(addend(k, after, after >> 11, v0));
     let v0 = v0.wrapping_sub(addend(k, before, before, v1));
@@ -62,21 +66,11 @@ impl HalfCipher for Xtea {
 
     fn forward(&self, key: &HalfKey, half: u64) -> u64 {
         let k = be_words(*key);
-        let mut v = split(half);
-        // a loop by number: the sums come from it, and a fold would have to show each time that i + 1 fits
-        for i in 0..CYCLES {
-            v = cycle_at(&k, sum_at(i), sum_at(i + 1), v);
-        }
-        join(v)
+        join((0..CYCLES).fold(split(half), |v, i| cycle_at(&k, i, v)))
     }
 
     fn backward(&self, key: &HalfKey, half: u64) -> u64 {
         let k = be_words(*key);
-        let mut v = split(half);
-        // by number again, from the last
-        for i in (0..CYCLES).rev() {
-            v = undo_cycle(&k, sum_at(i), sum_at(i + 1), v);
-        }
-        join(v)
+        join((0..CYCLES).rfold(split(half), |v, i| undo_cycle(&k, i, v)))
     }
 }

@@ -1,12 +1,16 @@
-use mathlib.Core.Path.{refl}
+use Rattle.std.proofs.Common.{ap, ap₂, ◌∙◌, rules}
+use Rattle.half_cipher.specs.Pairs.{joined}
 use Rattle.half_cipher.specs.Rounds.{rounds}
 use Rattle.half_cipher.specs.Xtea.{cycle_at}
-use Rattle.half_cipher.specs.Iterated.{rounds_more}
+use Rattle.half_cipher.proofs.Counted.{rounds_counted}
 use Rattle.half_cipher.proofs.xtea.XteaHalfCipher.forward.Goals as goal
 
-pub loop-i-init : goal.loop-i-init
-unfolding rounds
-loop-i-init c = refl
-
-pub loop-i-preserved : goal.loop-i-preserved
-loop-i-preserved c = let more = rounds_more (cycle_at c.be_words-k.result) c.loop-i.i c.split-v.result in cc
+pub returns : goal.returns
+returns c =
+    let k = c.be_words-k.result in
+    let run = c.fold.ensures.runs in
+    c.join.ensures
+    ∙ ap (joined 32)
+    (run.3 (λ v i. cycle_at k i v) (λ v i r f' h. search rules)
+    ∙ rounds_counted 32 (cycle_at k) c.split.result run.0 run.1 run.2
+    ∙ ap₂ (λ ws. rounds (cycle_at ws) 32) c.be_words-k.ensures c.split.ensures)
