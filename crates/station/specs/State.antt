@@ -83,6 +83,7 @@ started_with k l =
 abbrev pub running : {C M : Type 0} → Cipher.Ghosts C → Multiplier.Ghosts M → Hbs C M → Ledger → State
 running c m h l = started_with (keys c m h) l
 
+-- what is held with these keys: without a ledger the station is not started
 abbrev pub holding : Keys → Option Ledger → State
 holding k None = unstarted k.scheme k.key k.hash_key
 holding k (Some l) = started_with k l

@@ -7,7 +7,9 @@ use Rattle.seal.specs.Wrapping.{cleared}
 use Rattle.telegram.specs.Format.{parts, written}
 use Rattle.telegram.specs.Places.{layout}
 use Rattle.telegram.specs.Header.{Heading, header_bytes}
+use Rattle.telegram.specs.Kind.{kind_byte}
 use Rattle.station.specs.declared.fault.StationFault.{StationFault}
+use Rattle.station.specs.declared.outgoing.Outgoing.{Outgoing}
 use Rattle.station.specs.Answers.{refusal}
 use Rattle.station.specs.Calls.{Answer, Done, Opened, Order, Ordered, Sealed as SealedAt, Refused}
 use Rattle.station.specs.State.{State, Waiting, none_heard}
@@ -45,6 +47,10 @@ pub record Starting (s : State) (own allowance : ℕ) (k : List ℕ) (a : Answer
 -- the header of the next telegram
 abbrev pub next_header : State → ℕ → List ℕ → Heading
 next_header s kind note = record { gauge = s.own; serial = s.given + 1; kind = kind; note = note }
+
+-- the header of a message to be sealed, with a serial of a gauge
+abbrev pub heading_of : ℕ → ℕ → Outgoing → Heading
+heading_of gauge serial o = record { gauge = gauge; serial = serial; kind = kind_byte o.kind; note = o.note.now }
 
 -- the telegram that a message is sealed to under keys and a header
 abbrev pub telegram_under : Keys → Heading → List ℕ → List ℕ

@@ -29,6 +29,7 @@ unwanted key_len Measurement b = not ((headed (parts b).header).kind == 0)
 unwanted key_len Key b = not ((headed (parts b).header).kind == 1) || not (length (parts b).ciphertext == key_len)
 unwanted key_len (Other other) b = not ((headed (parts b).header).kind == other.byte)
 
+-- a key is wanted
 abbrev pub is_key : Kind → Bool
 is_key Measurement = false
 is_key Key = true

@@ -11,7 +11,6 @@ use crate::parts::Ledger;
 use cipher::Cipher;
 use mode::hbs::Hbs;
 use multiplier::Multiplier;
-use seal::fault::SealFault;
 use seal::watch::Watch;
 use telegram::kind::Kind;
 use telegram::parts::Place;
@@ -35,9 +34,7 @@ impl Ledger {
         } = self.examine(hbs, wanted, watch.contents())?;
         self.wear = wear;
         let Place { start, end } = incoming.places.ciphertext;
-        if !watch.open_part(hbs, &incoming.header, incoming.tag, start, end) {
-            return Err(StationFault::Seal(SealFault::Mismatch));
-        }
+        watch.open_part(hbs, &incoming.header, incoming.tag, start, end)?;
         self.hear(sender, incoming.serial);
         Ok(incoming)
     }

@@ -26,6 +26,7 @@ impl Incoming {
 
 impl Ledger {
     /// What is told of a telegram of the kind that is wanted, where it passes all tests but the last.
+    // the kind decides two of the tests: each is one comparison, which a closure for each call would not shorten
     pub(crate) fn examine<C: Cipher, M: Multiplier>(
         &self,
         hbs: &Hbs<C, M>,

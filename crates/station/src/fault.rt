@@ -67,7 +67,7 @@ impl StationFault {
         }
     }
 
-    /// What is wrong, in words.
+    /// What is wrong, in words. They have a clause of their own; `Display` is one line over them.
     pub fn words(self) -> &'static str
         ensures { result.now ≡ words self }
     {

@@ -16,6 +16,7 @@ pub(crate) struct Incoming {
     pub(crate) gauge: u8,
     pub(crate) serial: u32,
     pub(crate) kind: Kind,
+    // a copy: the watch lends all the buffer to be written
     pub(crate) header: ArrayVec<u8, MAX_HEADER>,
     pub(crate) sizes: Sizes,
     pub(crate) tag: Block,

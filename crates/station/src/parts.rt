@@ -19,6 +19,8 @@ pub struct Change {
 }
 
 /// The record of a station that is started.
+// its methods take the Hbs beside it: both are lent from the station at once, and methods of the station would ask for the
+// ledger again
 #[derive(Drop)]
 pub struct Ledger {
     pub(crate) own: u8,

@@ -15,8 +15,8 @@ use multiplier::Multiplier;
 /// largest numbers of header blocks and of message blocks among them.
 #[derive(Clone, Copy)]
 pub struct Report {
-    // the use of the key as three numbers: a caller reads each by its name, and Wear's stand under its invariant
     pub count: usize,
+    // the use of the key as three numbers: a caller reads each by its name, and Wear's stand under its invariant
     pub calls: u64,
     pub header_blocks: u64,
     pub message_blocks: u64,

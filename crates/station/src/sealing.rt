@@ -3,7 +3,7 @@ ghost use Rattle.std.specs.Prelude.{◌≡◌, ◌+◌, false, [], length, Match
 ghost use Rattle.mode.specs.Keys.{keys};
 ghost use Rattle.station.specs.Calls.{Sealed};
 ghost use Rattle.station.specs.State.{running, view};
-ghost use Rattle.station.specs.Steps.{Sealing, answered, not_a_key, out_of_size, telegram_under};
+ghost use Rattle.station.specs.Steps.{Sealing, answered, heading_of, not_a_key, out_of_size, telegram_under};
 ghost use Rattle.telegram.specs.Kind.{kind_byte};
 
 use crate::fault::StationFault;
@@ -40,7 +40,7 @@ impl Outgoing<'_> {
         out: &mut [u8],
     ) -> Result<(), TelegramFault>
         requires { length out.old ≡ 27 + length self.now.note.now + length self.now.message.now }
-        ensures { MatchResult result (λ _. out.new ≡ telegram_under (keys C.Cipher M.Multiplier hbs.now) (record { gauge = gauge; serial = serial; kind = kind_byte self.now.kind; note = self.now.note.now }) self.now.message.now) (λ _. ⊥) }
+        ensures { MatchResult result (λ _. out.new ≡ telegram_under (keys C.Cipher M.Multiplier hbs.now) (heading_of gauge serial self.now) self.now.message.now) (λ _. ⊥) }
     {
         let header = Header {
             gauge,

@@ -21,16 +21,18 @@ returns-in_err-incoming-clause-admits g c =
       long = refl;
     }
 
-pub returns-then-not-open_part-clause-admits : goal.returns-then-not-open_part-clause-admits
-returns-then-not-open_part-clause-admits g c =
+pub returns-in_err-open_part-clause-admits : goal.returns-in_err-open_part-clause-admits
+returns-in_err-open_part-clause-admits g c =
     let s = running g.C.Cipher g.M.Multiplier c.args.hbs.now c.args.self.now in
     let b = c.args.watch.now.bytes.now in
     let x = c.in_ok-incoming.field-0 in
     let admitted : Admitted s c.args.wanted b x = subst (λ (z : List ℕ). Admitted s c.args.wanted z x) c.contents.ensures c.in_ok-incoming.ensures in
-    let opens = part_message s b x.incoming admitted.told false _ c.open_part.new.self.bytes.now c.deref.ensures.0 c.if-not-open_part.ensures.opens in
+    let opens = part_message s b x.incoming admitted.told false _ c.open_part.new.self.bytes.now c.deref.ensures.0 c.in_err-open_part.ensures.opens in
     let none = no_message (message s b) (λ m. with_message m b) opens in
+    let from = err_from_is_err_and c.from_residual-in_err-open_part.result c.from_residual-in_err-open_part.ensures.1 in
+    let fault = c.in_err-open_part.ensures.fault in
     record {
-      answers = mismatched s c.args.wanted b admitted.passed none;
+      answers = simp (from.1, from.2, fault) (mismatched s c.args.wanted b admitted.passed none);
       moves = ap (with_use s) admitted.wear ∙ counts s c.args.wanted b admitted.passed none;
       long = c.open_part.ensures.len;
     }
@@ -42,7 +44,7 @@ returns-clause-admits g c =
     let x = c.in_ok-incoming.field-0 in
     let admitted : Admitted s c.args.wanted b x = subst (λ (z : List ℕ). Admitted s c.args.wanted z x) c.contents.ensures c.in_ok-incoming.ensures in
     let left = c.open_part.new.self.bytes.now in
-    let opens = part_message s b x.incoming admitted.told true _ left c.deref.ensures.0 c.if-not-open_part.ensures.opens in
+    let opens = part_message s b x.incoming admitted.told true _ left c.deref.ensures.0 c.in_ok-open_part.ensures.opens in
     let found = some_message (message s b) (λ m. with_message m b) left opens in
     record {
       answers = record {
