@@ -1,5 +1,5 @@
 -- What an answer says after a step that failed.
-use Rattle.std.proofs.Common.{◌≡◌, ℕ, ◌<◌, ◌≤◌, false, List, [], ◌∷◌, length, map, get_or, drop, Bor, Some, Ok, Err, codes, sym, refl, ap, ◌∙◌, arith}
+use Rattle.std.proofs.Common.{◌≡◌, ℕ, ◌<◌, ◌≤◌, false, List, [], ◌∷◌, length, map, get_or, drop, take, Bor, Some, Ok, Err, codes, sym, refl, ap, ◌∙◌, arith}
 use Rattle.std.specs.Str.{bytes_eq}
 use Rattle.std.proofs.lemmas.Bool.{cond-false}
 use Rattle.std.proofs.lemmas.List.{length-map, drop_more, drop_all}
@@ -47,30 +47,49 @@ unwrap_short (k ∷ h ∷ t ∷ c ∷ fs) l = absurd (omega arith)
 abbrev nowhere : Bor (List ℕ)
 nowhere = record { ref_ptr = (0, 0); now = [] }
 
--- What a line asks for, by the number of its fields.
-module _ (line : List ℕ) (parts : List (Bor (List ℕ))) (same : map (λ part. part.now) parts ≡ fields line) where
-  counted : length (fields line) ≡ length parts
+-- The first five fields tell what a line asks for.
+wrap_first : (fs : List (List ℕ)) → wrap_fields fs ≡ wrap_fields (take 5 fs)
+wrap_first [] = refl
+wrap_first (k ∷ []) = refl
+wrap_first (k ∷ h ∷ []) = refl
+wrap_first (k ∷ h ∷ m ∷ []) = refl
+wrap_first (k ∷ h ∷ m ∷ x ∷ fs) = refl
+
+unwrap_first : (fs : List (List ℕ)) → unwrap_fields fs ≡ unwrap_fields (take 5 fs)
+unwrap_first [] = refl
+unwrap_first (k ∷ []) = refl
+unwrap_first (k ∷ h ∷ []) = refl
+unwrap_first (k ∷ h ∷ t ∷ []) = refl
+unwrap_first (k ∷ h ∷ t ∷ c ∷ []) = refl
+unwrap_first (k ∷ h ∷ t ∷ c ∷ x ∷ fs) = refl
+
+-- What a line asks for, by the number of its first fields.
+module _ (line : List ℕ) (parts : List (Bor (List ℕ))) (same : map (λ part. part.now) parts ≡ take 5 (fields line)) where
+  abbrev first : List (List ℕ)
+  first = take 5 (fields line)
+
+  counted : length first ≡ length parts
   counted = ap length (sym same) ∙ length-map parts (λ part. part.now)
 
   pub wrap_read : 3 ≤ length parts → length parts < 4 → wrap_line line ≡ wrap_bytes (get_or parts 0 nowhere).now (get_or parts 1 nowhere).now (get_or parts 2 nowhere).now
   wrap_read l u =
       let at : ℕ → Bor (List ℕ) = λ i. get_or parts i nowhere in
-      ap wrap_fields (sym same ∙ ap (map (λ part. part.now)) (three nowhere parts l ∙ ap (λ rest. at 0 ∷ at 1 ∷ at 2 ∷ rest) (drop_all 3 parts (omega arith))))
+      wrap_first (fields line) ∙ ap wrap_fields (sym same ∙ ap (map (λ part. part.now)) (three nowhere parts l ∙ ap (λ rest. at 0 ∷ at 1 ∷ at 2 ∷ rest) (drop_all 3 parts (omega arith))))
 
   pub wrap_few : length parts < 3 → wrap_line line ≡ Err (TooFewFields Wrap)
-  wrap_few l = wrap_short (fields line) (omega (arith, counted))
+  wrap_few l = wrap_first (fields line) ∙ wrap_short first (omega (arith, counted))
 
   pub wrap_many : 4 ≤ length parts → wrap_line line ≡ Err (TooManyFields Wrap)
-  wrap_many l = ap wrap_fields (four [] (fields line) (omega (arith, counted)))
+  wrap_many l = wrap_first (fields line) ∙ ap wrap_fields (four [] first (omega (arith, counted)))
 
   pub unwrap_read : 4 ≤ length parts → length parts < 5 →
       unwrap_line line ≡ unwrap_bytes (get_or parts 0 nowhere).now (get_or parts 1 nowhere).now (get_or parts 2 nowhere).now (get_or parts 3 nowhere).now
   unwrap_read l u =
       let at : ℕ → Bor (List ℕ) = λ i. get_or parts i nowhere in
-      ap unwrap_fields (sym same ∙ ap (map (λ part. part.now)) (four nowhere parts l ∙ ap (λ rest. at 0 ∷ at 1 ∷ at 2 ∷ at 3 ∷ rest) (drop_all 4 parts (omega arith))))
+      unwrap_first (fields line) ∙ ap unwrap_fields (sym same ∙ ap (map (λ part. part.now)) (four nowhere parts l ∙ ap (λ rest. at 0 ∷ at 1 ∷ at 2 ∷ at 3 ∷ rest) (drop_all 4 parts (omega arith))))
 
   pub unwrap_few : length parts < 4 → unwrap_line line ≡ Err (TooFewFields Unwrap)
-  unwrap_few l = unwrap_short (fields line) (omega (arith, counted))
+  unwrap_few l = unwrap_first (fields line) ∙ unwrap_short first (omega (arith, counted))
 
   pub unwrap_many : 5 ≤ length parts → unwrap_line line ≡ Err (TooManyFields Unwrap)
-  unwrap_many l = ap unwrap_fields (five [] (fields line) (omega (arith, counted)))
+  unwrap_many l = unwrap_first (fields line) ∙ ap unwrap_fields (five [] first (omega (arith, counted)))

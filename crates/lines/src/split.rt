@@ -1,6 +1,6 @@
 //! The fields of a line, which stand between blanks.
 
-ghost use Rattle.std.specs.Prelude.{◌≡◌, map, IfOk};
+ghost use Rattle.std.specs.Prelude.{◌≡◌, map, take, IfOk};
 ghost use Rattle.lines.specs.Blanks.{blank, fields};
 
 use std::alloc::{AllocError, Global};
@@ -12,11 +12,12 @@ fn is_blank(c: u8) -> bool
     matches!(c, b' ' | b'\t' | b'\r')
 }
 
-/// The fields of a line.
+/// The first fields of a line. Either form has at most four, so five tell that there are too many.
 pub(crate) fn fields(heap: Global, line: &[u8]) -> Result<Vec<&[u8]>, AllocError>
-    ensures { IfOk result (λ v. map (λ field. field.now) v.items ≡ fields line.now) }
+    ensures { IfOk result (λ v. map (λ field. field.now) v.items ≡ take 5 (fields line.now)) }
 {
     line.split(|c| is_blank(*c))
         .filter(|field| !field.is_empty())
+        .take(5)
         .collect(heap)
 }
