@@ -17,7 +17,6 @@ use multiplier::Multiplier;
 use seal::wrapping::{unwrap, wrap};
 use std::alloc::{AllocError, Global};
 
-// the clause `scheme` stays in each contract: it sets what an Hbs is against what it was, which no type says
 /// A request that is answered by a line.
 pub trait Answered: Request {
     /// What a request is answered, under a cipher's scheme ..
@@ -33,6 +32,7 @@ pub trait Answered: Request {
         hbs: &mut Hbs<C, M>,
     ) -> Result<String, AllocError>
         ensures answers { IfOk result (λ t. string_bytes t ≡ replies (C.scheme hbs.old.cipher) self) }
+        // the clause `scheme` stays in each contract: it sets what an Hbs is against what it was, which no type says
         ensures scheme { C.scheme hbs.new.cipher ≡ C.scheme hbs.old.cipher };
 
     /// A line that is read is answered as its request is, and another by what is wrong with it.

@@ -15,8 +15,8 @@ use lines::hex;
 use named::task::Task;
 use std::alloc::Global;
 
-// beside the Vector of `vectors`: that program knows no names, and a crate for the three fields alone is no plainer
 /// A block that a cipher takes to another under a key.
+// beside the Vector of `vectors`: that program knows no names, and a crate for the three fields alone is no plainer
 #[derive(Drop)]
 pub(crate) struct BlockVector {
     key: Vec<u8>,

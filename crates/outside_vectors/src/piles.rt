@@ -76,12 +76,9 @@ pub(crate) fn with_pile<T: Task + Drop>(
 
 /// A name without the blocks of its whitenings.
 pub(crate) fn kind(heap: Global, name: &str) -> Result<String, AllocError> {
-    let mut kind = String::new(heap);
-    for word in name.split(':').filter(|word| word.len() != 32) {
-        if !kind.is_empty() {
-            kind.push(' ')?;
-        }
-        kind.push_str(word)?;
-    }
-    Ok(kind)
+    let words: Vec<&str> = name
+        .split(':')
+        .filter(|word| word.len() != 32)
+        .collect(heap)?;
+    words.join(heap, " ")
 }

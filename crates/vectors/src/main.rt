@@ -20,6 +20,7 @@ struct Vector {
     enciphered: Block,
 }
 
+// as in outside_vectors: two lines, in programs that share no crate over both blocks and hex
 fn read_block(heap: Global, text: &str) -> anyhow::Result<Block> {
     let bytes = hex::decode_array(heap, Field::Message, text.as_bytes())?;
     Ok(Block::from_bytes(bytes.context("a block has 16 bytes")?))
