@@ -35,6 +35,7 @@ mod tests {
         n.map(|n| ramp(heap, n)).transpose()
     }
 
+    // one line, which station_cases has too: the tests share no crate
     fn is_zero(bytes: &[u8]) -> bool {
         bytes.iter().all(|b| *b == 0)
     }

@@ -48,7 +48,7 @@ impl Ledger {
     }
 
     /// Hears a serial from a gauge.
-    // two parameters: of the pair each place takes another type apart, a header, a change or an order
+    // two parameters: the gauge is a `GaugeNumber` here and a plain byte in a change and an order
     pub(crate) fn hear(&mut self, gauge: GaugeNumber, serial: u32)
         ensures { self.new ≡ heard gauge.number serial self.old }
     {

@@ -16,7 +16,7 @@ pub(crate) struct Incoming {
     pub(crate) gauge: u8,
     pub(crate) serial: u32,
     pub(crate) kind: Kind,
-    // a copy: the watch lends all the buffer to be written
+    // a copy: the watch lends all the buffer to be written, and one that splits it would serve this call alone
     pub(crate) header: ArrayVec<u8, MAX_HEADER>,
     pub(crate) sizes: Sizes,
     pub(crate) tag: Block,

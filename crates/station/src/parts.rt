@@ -6,7 +6,8 @@ use mode::hbs::Hbs;
 /// What is known of a gauge under the key in force.
 #[derive(Clone, Copy)]
 pub struct Gauge {
-    // the last serial accepted from it; 0 where it has not been heard, so that any serial but 0 is above it
+    // the last serial accepted from it; 0 where it has not been heard, and no Option: any serial but 0 is above it, so one
+    // comparison serves both
     pub(crate) last: u32,
 }
 

@@ -16,6 +16,7 @@ mod tests {
 
     const MESSAGE: [u8; 16] = [0, 0, 0, 0, 0, 0, 0, 0, 0, 0, 0, 0, 0, 0, 0, 3];
 
+    // one line, which cases has too: the tests share no crate
     fn is_zero(bytes: &[u8]) -> bool {
         bytes.iter().all(|b| *b == 0)
     }
