@@ -30,6 +30,6 @@ hits '5 the same watch, spelled out' lines 'ghost_name'
 hits '6 lengths and counts beside bytes' lines '^\s+(pub(\(crate\))? )?(\w+_len|count|start|end): usize'
 hits '6 arrays held' lines '^\s+(pub(\(crate\))? )?\w+: \[\w+; [0-9A-Z_]+\],'
 hits '7 switches' lines 'match (call|self\.call|self\.multiplier|name) |\bkey: bool|\bdyn\b|impl Fn'
-hits '8 files of answers and invariants' find crates -path '*/proofs/*' \( -name Answers.antt -o -name Invariants.antt \)
-hits '8 lines of them' sh -c "find crates -path '*/proofs/*' \( -name Answers.antt -o -name Invariants.antt \) -exec cat {} +"
-hits '8 lines of lemmas in proofs' sh -c "find crates -path '*/proofs/*' -name '*.antt' ! -name Answers.antt ! -name Invariants.antt -exec cat {} +"
+hits '8 files of answers and invariants' find crates -path '*/proofs/*' ! -path '*/out/*' \( -name Answers.antt -o -name Invariants.antt \)
+hits '8 lines of them' sh -c "find crates -path '*/proofs/*' ! -path '*/out/*' \( -name Answers.antt -o -name Invariants.antt \) -exec cat {} +"
+hits '8 lines of lemmas in proofs' sh -c "find crates -path '*/proofs/*' ! -path '*/out/*' -name '*.antt' ! -name Answers.antt ! -name Invariants.antt -exec cat {} +"
