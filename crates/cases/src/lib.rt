@@ -254,6 +254,10 @@ mod tests {
             pile.encipher(Block::ZERO).to_bytes(),
             block(5 ^ 0x10 ^ 0x20 ^ 1 ^ 2)
         );
+        assert_eq!(rt;
+            pile.decipher(Block::from(5 ^ 0x10 ^ 0x20 ^ 1 ^ 2)),
+            Block::ZERO
+        );
         let header = block(1);
         let mut tag = [0; 16];
         let mut text = block(3);
