@@ -48,7 +48,7 @@ impl BitXor for Columns {
 
 impl Columns {
     /// ShiftRows, where `column` makes each new column of the four that its rows are from.
-    pub fn shift_rows<F: Fn(u32, u32, u32, u32) -> u32>(self, column: F) -> Columns
+    pub(crate) fn shift_rows<F: Fn(u32, u32, u32, u32) -> u32>(self, column: F) -> Columns
         requires { F.IsAlwaysCallable column }
         ensures { Shifted (F.post column) self.0 result.0 }
     {
@@ -63,14 +63,14 @@ impl Columns {
 }
 
 /// The byte of a column in row `ROW`, which goes round after the last.
-pub fn row<const ROW: usize>(x: u32) -> u8
+pub(crate) fn row<const ROW: usize>(x: u32) -> u8
     ensures { result ≡ byte_at (ROW % 4) x }
 {
     x.to_be_bytes()[ROW % 4]
 }
 
 /// A column whose rows are from four columns, each byte substituted.
-pub fn substituted<S: Substitution>(x: u32, y: u32, z: u32, v: u32) -> u32
+pub(crate) fn substituted<S: Substitution>(x: u32, y: u32, z: u32, v: u32) -> u32
     ensures { result ≡ word (S.rule (byte_at 0 x)) (S.rule (byte_at 1 y)) (S.rule (byte_at 2 z)) (S.rule (byte_at 3 v)) }
 {
     u32::from_be_bytes([

@@ -22,8 +22,10 @@ pub trait Substitution {
     fn of(a: u8) -> u8
         ensures { result ≡ rule a };
 
+    /// Bytes become bytes ..
     ghost byte: { TakesBytes rule };
 
+    /// .. and `undo` gives each of them back.
     ghost undone: { IsUndone rule undo };
 }
 
