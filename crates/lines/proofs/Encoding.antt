@@ -1,9 +1,7 @@
 -- One turn of `digits_of`, and that what is written in hex is read back.
-use Rattle.std.proofs.Common.{◌≡◌, ℕ, suc, ◌+◌, ◌-◌, ◌*◌, ◌^◌, ◌/◌, ◌%◌, ◌<◌, false, eqb, List, [], ◌∷◌, ◌++◌, length, get_or, drop, IfOk, Some, Ok, Err, codes, Result, sym, refl, ap, ◌∙◌, append_assoc, arith, w8, Fits}
+use Rattle.std.proofs.Common.{◌≡◌, ℕ, suc, ◌+◌, ◌*◌, ◌/◌, ◌%◌, ◌<◌, false, eqb, List, [], ◌∷◌, ◌++◌, length, get_or, drop, IfOk, SomeIff, Some, Ok, Err, codes, Option, Result, sym, refl, ap, ◌∙◌, append_assoc, subst, arith, w8, Fits}
 use Rattle.std.specs.Str.{bytes_eq}
-use Rattle.std.specs.Fmt.{format_spec, padded_integral}
-use Rattle.std.specs.Fmt.{digits as radix_digits}
-use Rattle.std.proofs.lemmas.Fmt.{hex_byte}
+use Rattle.std.specs.Char.{digit_char}
 use Rattle.std.proofs.lemmas.List.{drop_more}
 use Rattle.std.proofs.lemmas.Bool.{and_right, cond-false}
 use Rattle.std.proofs.lemmas.Bool.Decides.{nat_tests}
@@ -39,17 +37,21 @@ pub made_reads_back : {S E : Type 0} (text : S → List ℕ) (r : Result S E) (b
 made_reads_back text (Ok s) bytes h e = ap decoded e ∙ reads_back bytes h
 made_reads_back text (Err x) bytes h e = tt
 
--- what `{:02x}` writes of a byte
-abbrev pub written : ℕ → List ℕ
-written b = padded_integral (format_spec 32 0 4 2 (2 ^ 64 - 1)) false [] (radix_digits 16 false b)
+-- The digit that `from_digit` makes of a value below 16.
+pub symbol_made : (o : Option ℕ) (d c : ℕ) → SomeIff o (d < 16) (digit_char d) → o ≡ Some c → c ≡ symbol_of d
+symbol_made o d c s e = (subst (λ o. SomeIff o (d < 16) (digit_char d)) e s).1
 
--- The two digits of a byte go from what is left to the text.
-pub digits_more : (text new all bytes : List ℕ) (i : ℕ) → i < length bytes → get_or bytes i 0 < 256 → new ≡ text ++ written (get_or bytes i 0) →
+pub symbol_below : (d : ℕ) → d < 16 → symbol_of d < 128
+symbol_below d h = grind (arith, nat_tests)
+
+-- The two digits of a byte, a and b, go from what is left to the text.
+pub digits_more : (text mid new all bytes : List ℕ) (i a b : ℕ) → i < length bytes →
+    a ≡ symbol_of (get_or bytes i 0 / 16) → b ≡ symbol_of (get_or bytes i 0 % 16) → mid ≡ text ++ a ∷ [] → new ≡ mid ++ b ∷ [] →
     text ++ digits (drop i bytes) ≡ all → new ++ digits (drop (i + 1) bytes) ≡ all
-digits_more text new all bytes i lt byte appends inv =
-    let b = get_or bytes i 0 in
+digits_more text mid new all bytes i a b lt p q m n inv =
     let left = digits (drop (i + 1) bytes) in
-    ap (λ t. t ++ left) (appends ∙ ap (λ w. text ++ w) (hex_byte false b byte))
-    ∙ append_assoc text (symbol_of (b / 16) ∷ symbol_of (b % 16) ∷ []) left
-    ∙ ap (λ l. text ++ digits l) (sym (drop_more bytes i 0 lt))
+    let two : a ∷ b ∷ left ≡ digits (drop i bytes) = (λ k. p k ∷ q k ∷ left) ∙ sym (ap digits (drop_more bytes i 0 lt)) in
+    ap (λ t. t ++ left) (n ∙ ap (λ t. t ++ b ∷ []) m)
+    ∙ append_assoc (text ++ a ∷ []) (b ∷ []) left ∙ append_assoc text (a ∷ []) (b ∷ left)
+    ∙ ap (λ t. text ++ t) two
     ∙ inv

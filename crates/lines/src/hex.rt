@@ -7,7 +7,6 @@ ghost use Rattle.lines.specs.Laws.{WrapsReadBack, UnwrapsReadBack};
 
 use crate::fault::{Field, LineFault};
 use std::alloc::{AllocError, Global};
-use std::fmt::Write;
 
 /// The value of a hex digit, of either case.
 fn digit(c: u8) -> Option<u32>
@@ -59,7 +58,8 @@ fn digits_of(heap: Global, bytes: &[u8]) -> Result<String, AllocError>
 {
     let mut text = String::new(heap);
     for b in bytes {
-        write!(text, "{b:02x}")?;
+        text.push(char::from_digit(u32::from(*b / 16), 16).unwrap())?;
+        text.push(char::from_digit(u32::from(*b % 16), 16).unwrap())?;
     }
     Ok(text)
 }

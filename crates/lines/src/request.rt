@@ -8,7 +8,7 @@ ghost use Rattle.lines.specs.Lines.{ToWrap, ToUnwrap, to_wrap, to_unwrap, header
 
 use crate::fault::{Field, Form, LineFault};
 use crate::hex;
-use crate::split::fields;
+use crate::split::{next_field, no_field};
 use std::alloc::Global;
 
 /// What a line can ask for.
@@ -44,7 +44,7 @@ pub struct UnwrapRequest {
 }
 
 /// The line `KEY HEADER MESSAGE`.
-#[tactic(auto, using(crate::proofs::Answering::wrap_read, crate::proofs::Answering::wrap_few, crate::proofs::Answering::wrap_many))]
+#[tactic(auto, using(crate::proofs::Answering::wrap_fourth))]
 impl Request for WrapRequest {
     ghost Asked = { ToWrap };
 
@@ -55,20 +55,20 @@ impl Request for WrapRequest {
     fn parse(heap: Global, line: &[u8]) -> Result<WrapRequest, LineFault>
         ensures { Answers to_wrap result (wrap_line line.now) }
     {
-        match fields(heap, line)?.as_slice() {
-            [key, header, message] => Ok(WrapRequest {
-                key: hex::decode(heap, Field::Key, key)?,
-                header: decode_header(heap, header)?,
-                message: hex::decode(heap, Field::Message, message)?,
-            }),
-            [_, _, _, _, ..] => Err(LineFault::TooManyFields(Form::Wrap)),
-            _ => Err(LineFault::TooFewFields(Form::Wrap)),
-        }
+        let (key, rest) = next_field(Form::Wrap, line)?;
+        let (header, rest) = next_field(Form::Wrap, rest)?;
+        let (message, rest) = next_field(Form::Wrap, rest)?;
+        no_field(Form::Wrap, rest)?;
+        Ok(WrapRequest {
+            key: hex::decode(heap, Field::Key, key)?,
+            header: decode_header(heap, header)?,
+            message: hex::decode(heap, Field::Message, message)?,
+        })
     }
 }
 
 /// The line `KEY HEADER TAG CIPHERTEXT`.
-#[tactic(auto, using(crate::proofs::Answering::unwrap_read, crate::proofs::Answering::unwrap_few, crate::proofs::Answering::unwrap_many))]
+#[tactic(auto, using(crate::proofs::Answering::unwrap_fifth))]
 impl Request for UnwrapRequest {
     ghost Asked = { ToUnwrap };
 
@@ -79,16 +79,17 @@ impl Request for UnwrapRequest {
     fn parse(heap: Global, line: &[u8]) -> Result<UnwrapRequest, LineFault>
         ensures { Answers to_unwrap result (unwrap_line line.now) }
     {
-        match fields(heap, line)?.as_slice() {
-            [key, header, tag, ciphertext] => Ok(UnwrapRequest {
-                key: hex::decode(heap, Field::Key, key)?,
-                header: decode_header(heap, header)?,
-                tag: hex::decode(heap, Field::Tag, tag)?,
-                ciphertext: hex::decode(heap, Field::Ciphertext, ciphertext)?,
-            }),
-            [_, _, _, _, _, ..] => Err(LineFault::TooManyFields(Form::Unwrap)),
-            _ => Err(LineFault::TooFewFields(Form::Unwrap)),
-        }
+        let (key, rest) = next_field(Form::Unwrap, line)?;
+        let (header, rest) = next_field(Form::Unwrap, rest)?;
+        let (tag, rest) = next_field(Form::Unwrap, rest)?;
+        let (ciphertext, rest) = next_field(Form::Unwrap, rest)?;
+        no_field(Form::Unwrap, rest)?;
+        Ok(UnwrapRequest {
+            key: hex::decode(heap, Field::Key, key)?,
+            header: decode_header(heap, header)?,
+            tag: hex::decode(heap, Field::Tag, tag)?,
+            ciphertext: hex::decode(heap, Field::Ciphertext, ciphertext)?,
+        })
     }
 }
 
