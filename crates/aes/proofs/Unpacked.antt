@@ -2,11 +2,12 @@
 use Rattle.std.proofs.Common.{◌≡◌, ℕ, ◌<◌, List, [], ◌∷◌, get_or, sym, ap, ◌∙◌, ap₂, zero-add, lit<}
 use lib.Bits.{bit_xor}
 use Rattle.std.proofs.lemmas.List.FromFn.{get_or-map-range_with_len}
-use Rattle.fips197.specs.State.{IsState, cell, mix, add_round_key, shift_rows, inv_shift_rows, sub_bytes, inv_sub_bytes}
+use Rattle.fips197.specs.Sbox.{sub_byte, inv_sub_byte}
+use Rattle.fips197.specs.State.{IsState, cell, mix, mix_columns, add_round_key, shift_rows, inv_shift_rows, sub_bytes, inv_sub_bytes}
 use Rattle.fips197.proofs.Steps.{cell_state, is_state, same_state, made, cell_small, sub_state, inv_sub_state, shift_state, inv_shift_state}
 use Rattle.aes_tables.specs.Words.{word}
 use Rattle.aes_tables.proofs.Tables.{by_row}
-use Rattle.aes.specs.Columns.{byte_at, unpack, mix_word}
+use Rattle.aes.specs.Columns.{byte_at, unpack, mix_word, Shifted}
 use Rattle.aes.proofs.Rows.{byte_small, byte_word, byte_xor, byte_mix}
 
 -- four columns by their index
@@ -68,3 +69,17 @@ forth_state xs = shift_state (sub_bytes (unpack xs)) (sub_state (unpack xs) (unp
 
 pub back_state : (xs : List ℕ) → IsState (inv_sub_bytes (inv_shift_rows (unpack xs)))
 back_state xs = inv_sub_state (inv_shift_rows (unpack xs)) (inv_shift_state (unpack xs) (unpack_state xs))
+
+-- ---- a round's steps, column by column
+
+pub forth_mixed : (w xs : List ℕ)
+    → Shifted (λ x y z v r. r ≡ mix_word 2 3 1 1 (sub_byte (byte_at 0 x)) (sub_byte (byte_at 1 y)) (sub_byte (byte_at 2 z)) (sub_byte (byte_at 3 v))) w xs
+    → unpack xs ≡ mix_columns (shift_rows (sub_bytes (unpack w)))
+unfolding unpack sub_bytes shift_rows mix_columns
+forth_mixed w xs = mixes_are 2 3 1 1 xs (shift_rows (sub_bytes (unpack w))) (forth_state w)
+
+pub back_substituted : (w xs : List ℕ)
+    → Shifted (λ x y z v r. r ≡ word (inv_sub_byte (byte_at 0 x)) (inv_sub_byte (byte_at 1 v)) (inv_sub_byte (byte_at 2 z)) (inv_sub_byte (byte_at 3 y))) w xs
+    → unpack xs ≡ inv_sub_bytes (inv_shift_rows (unpack w))
+unfolding unpack inv_sub_bytes inv_shift_rows
+back_substituted w xs = words_are xs (inv_sub_bytes (inv_shift_rows (unpack w))) (back_state w)

@@ -26,12 +26,14 @@ round (suc (suc (suc (suc r)))) p q u v a =
 abbrev pub table : (ℕ → ℕ) → List ℕ
 table f = map f (range_with_len 0 256)
 
--- the entry of a byte in the table of its row
-pub entry_in_row : (f : ℕ → ℕ → ℕ) (none : List ℕ) (a : ℕ) → a < 256 → (r : ℕ) → r < 4
-    → get_or (get_or (table (f 0) ∷ table (f 1) ∷ table (f 2) ∷ table (f 3) ∷ []) r none) a 0 ≡ f r a
-entry_in_row f none a h =
-    by_row (λ r. get_or (get_or (table (f 0) ∷ table (f 1) ∷ table (f 2) ∷ table (f 3) ∷ []) r none) a 0 ≡ f r a)
-    (entry (f 0) a h) (entry (f 1) a h) (entry (f 2) a h) (entry (f 3) a h)
+-- the entry of a byte in the table of its row, at any index that is the row's
+pub entry_in_row : (f : ℕ → ℕ → ℕ) (none : List ℕ) (a : ℕ) → a < 256 → (r : ℕ) → r < 4 → (x : ℕ) → f r a ≡ x → (i : ℕ) → i ≡ r
+    → get_or (get_or (table (f 0) ∷ table (f 1) ∷ table (f 2) ∷ table (f 3) ∷ []) i none) a 0 ≡ x
+entry_in_row f none a h r hr x ex i e =
+    ap (λ (i : ℕ). get_or (get_or (table (f 0) ∷ table (f 1) ∷ table (f 2) ∷ table (f 3) ∷ []) i none) a 0) e
+    ∙ by_row (λ r. get_or (get_or (table (f 0) ∷ table (f 1) ∷ table (f 2) ∷ table (f 3) ∷ []) r none) a 0 ≡ f r a)
+    (entry (f 0) a h) (entry (f 1) a h) (entry (f 2) a h) (entry (f 3) a h) r hr
+    ∙ ex
 
 -- a word of the inverse table, turned to its row; tested at each byte
 pub turned : (a : ℕ) → a < 256 → (r : ℕ) → r < 4 → rotate_right w32 (spread 14 9 13 11 a) (8 * r) ≡ spread_from r 14 9 13 11 a

@@ -1,5 +1,5 @@
 -- The table is what the rule gives at 0, 1, .., 255: both are computed and compared.
-use Rattle.std.proofs.Common.{ℕ, ◌*◌, ◌%◌, ap, ◌∙◌, arith}
+use Rattle.std.proofs.Common.{ℕ, ◌%◌, ◌∙◌, ap₂, arith}
 use Rattle.std.specs.Int.{rotate_right, w32}
 use Rattle.fips197.specs.Bytes.{entry}
 use Rattle.fips197.specs.Field.{xtime, times, mul}
@@ -12,5 +12,5 @@ unfolding xtime times mul word spread
 returns g c =
     let a = c.args.a in
     let r : ℕ = g.row.ROW % 4 in
-    c.rotate_right.ensures ∙ ap (λ (x : ℕ). rotate_right w32 x (8 * r)) (entry (spread 14 9 13 11) a (omega arith))
-    ∙ turned a (omega arith) r (omega arith) ∙ round g.row.ROW 14 9 13 11 a
+    c.rotate_right.ensures ∙ ap₂ (rotate_right w32) (entry (spread 14 9 13 11) a (omega arith)) (omega arith) ∙ turned a (omega arith) r (omega arith)
+    ∙ round g.row.ROW 14 9 13 11 a
