@@ -8,13 +8,13 @@ ghost use Rattle.lines.specs.Lines.{to_wrap, to_unwrap};
 ghost use Rattle.answers.specs.Replies.{wrap_reply, unwrap_reply, reply, wrap_answer, unwrap_answer};
 ghost use Rattle.answers.specs.Texts.{malformed_text};
 
-use crate::text;
+use crate::{lent, text};
 use cipher::Cipher;
 use lines::fault::LineFault;
 use lines::request::{Request, UnwrapRequest, WrapRequest};
 use mode::hbs::Hbs;
 use multiplier::Multiplier;
-use seal::wrapping::{unwrap, wrap};
+use seal::lent::{unwrap, wrap};
 use std::alloc::{AllocError, Global};
 
 /// A request that is answered by a line.
@@ -25,15 +25,28 @@ pub trait Answered: Request {
     /// .. and what a line is, by its number.
     ghost answers: { Scheme → ℕ → List ℕ → List ℕ };
 
-    /// Answers the request. An error is want of memory.
+    /// Answers the request, over a cipher and a multiplier that are lent. An error is want of memory.
+    fn reply_lent<C: Cipher, M: Multiplier>(
+        self,
+        heap: Global,
+        cipher: &mut C,
+        multiplier: &mut M,
+    ) -> Result<String, AllocError>
+        ensures answers { IfOk result (λ t. string_bytes t ≡ replies (C.scheme cipher.old) self) }
+        // the clause `scheme` stays in each contract: it sets what a cipher is against what it was, which no type says
+        ensures scheme { C.scheme cipher.new ≡ C.scheme cipher.old };
+
+    /// .. and under a cipher beside its multiplier.
     fn reply<C: Cipher, M: Multiplier>(
         self,
         heap: Global,
         hbs: &mut Hbs<C, M>,
     ) -> Result<String, AllocError>
         ensures answers { IfOk result (λ t. string_bytes t ≡ replies (C.scheme hbs.old.cipher) self) }
-        // the clause `scheme` stays in each contract: it sets what an Hbs is against what it was, which no type says
-        ensures scheme { C.scheme hbs.new.cipher ≡ C.scheme hbs.old.cipher };
+        ensures scheme { C.scheme hbs.new.cipher ≡ C.scheme hbs.old.cipher }
+    {
+        self.reply_lent(heap, &mut hbs.cipher, &mut hbs.multiplier)
+    }
 
     /// A line that is read is answered as its request is, and another by what is wrong with it.
     ghost read: { (s : Scheme) (n : ℕ) (line : List ℕ) (request : Self) → Self.reading line ≡ Ok (Self.asked request) → answers s n line ≡ replies s request };
@@ -53,11 +66,39 @@ pub fn answer<R: Answered, C: Cipher, M: Multiplier>(
     ensures answers { IfOk result (λ t. string_bytes t ≡ R.answers (C.scheme hbs.old.cipher) number line.now) }
     ensures scheme { C.scheme hbs.new.cipher ≡ C.scheme hbs.old.cipher }
 {
-    match R::parse(heap, line) {
-        Ok(request) => request.reply(heap, hbs),
-        Err(LineFault::NoMemory) => Err(AllocError),
-        Err(fault) => text::malformed(heap, number, fault),
-    }
+    lent::answer::<R, C, M>(heap, &mut hbs.cipher, &mut hbs.multiplier, number, line)
+}
+
+/// Answers the line `KEY HEADER MESSAGE` with `accepted TAG CIPHERTEXT`, or with what is wrong.
+///
+/// The cipher and the multiplier are lent. An error is want of memory.
+pub fn answer_wrap<C: Cipher, M: Multiplier>(
+    heap: Global,
+    cipher: &mut C,
+    multiplier: &mut M,
+    number: u64,
+    line: &[u8],
+) -> Result<String, AllocError>
+    ensures answers { IfOk result (λ t. string_bytes t ≡ wrap_answer (C.scheme cipher.old) number line.now) }
+    ensures scheme { C.scheme cipher.new ≡ C.scheme cipher.old }
+{
+    lent::answer::<WrapRequest, C, M>(heap, cipher, multiplier, number, line)
+}
+
+/// Answers the line `KEY HEADER TAG CIPHERTEXT` with `accepted MESSAGE`, or with what is wrong.
+///
+/// The cipher and the multiplier are lent. An error is want of memory.
+pub fn answer_unwrap<C: Cipher, M: Multiplier>(
+    heap: Global,
+    cipher: &mut C,
+    multiplier: &mut M,
+    number: u64,
+    line: &[u8],
+) -> Result<String, AllocError>
+    ensures answers { IfOk result (λ t. string_bytes t ≡ unwrap_answer (C.scheme cipher.old) number line.now) }
+    ensures scheme { C.scheme cipher.new ≡ C.scheme cipher.old }
+{
+    lent::answer::<UnwrapRequest, C, M>(heap, cipher, multiplier, number, line)
 }
 
 /// `accepted TAG CIPHERTEXT`
@@ -70,10 +111,11 @@ impl Answered for WrapRequest {
 
     ghost unread = { λ s n line fault e. ap (reply n (wrap_reply s)) e };
 
-    fn reply<C: Cipher, M: Multiplier>(
+    fn reply_lent<C: Cipher, M: Multiplier>(
         self,
         heap: Global,
-        hbs: &mut Hbs<C, M>,
+        cipher: &mut C,
+        multiplier: &mut M,
     ) -> Result<String, AllocError> {
         let WrapRequest {
             key,
@@ -81,7 +123,14 @@ impl Answered for WrapRequest {
             mut message,
         } = self;
         let mut tag = [0; 16];
-        match wrap(hbs, &key, header.as_deref(), &mut tag, &mut message) {
+        match wrap(
+            cipher,
+            multiplier,
+            &key,
+            header.as_deref(),
+            &mut tag,
+            &mut message,
+        ) {
             Ok(()) => text::sealed(heap, &tag, &message),
             Err(fault) => text::refused(heap, fault),
         }
@@ -98,10 +147,11 @@ impl Answered for UnwrapRequest {
 
     ghost unread = { λ s n line fault e. ap (reply n (unwrap_reply s)) e };
 
-    fn reply<C: Cipher, M: Multiplier>(
+    fn reply_lent<C: Cipher, M: Multiplier>(
         self,
         heap: Global,
-        hbs: &mut Hbs<C, M>,
+        cipher: &mut C,
+        multiplier: &mut M,
     ) -> Result<String, AllocError> {
         let UnwrapRequest {
             key,
@@ -109,7 +159,14 @@ impl Answered for UnwrapRequest {
             tag,
             mut ciphertext,
         } = self;
-        match unwrap(hbs, &key, header.as_deref(), &tag, &mut ciphertext) {
+        match unwrap(
+            cipher,
+            multiplier,
+            &key,
+            header.as_deref(),
+            &tag,
+            &mut ciphertext,
+        ) {
             Ok(()) => text::opened(heap, &ciphertext),
             Err(fault) => text::refused(heap, fault),
         }

@@ -8,8 +8,11 @@ mod tests {
     use cipher::bench::Bench;
     use cipher::whitened::Whitened;
     use mode::hbs::Hbs;
+    use mode::sealing;
     use multiplier::{Doubling, Multiplier, Table};
     use seal::fault::SealFault;
+    use seal::lent;
+    use seal::watch::Watch;
     use seal::wrapping::{unwrap, wrap};
     use std::alloc::{AllocError, Global};
     use std::process::Abort;
@@ -267,6 +270,62 @@ mod tests {
         hbs.multiplier = Table::new();
         unwrap(&mut hbs, &block(2), Some(&header), &tag, &mut text)?;
         assert_eq!(rt; text, block(3));
+        Ok(())
+    }
+
+    // One pile, which is not `Copy`, lent to one multiplier and then to another.
+    #[test]
+    fn a_pile_lent_to_two_multipliers(rt: HostRuntime) -> Result<(), Fail> {
+        let inner = Whitened::new(Bench::new(), Block::from(0x10), Block::from(0x20));
+        let mut pile = Whitened::new(inner, Block::from(1), Block::from(2));
+        let mut doubling = Doubling::new();
+        let mut table = Table::new();
+        let header = block(1);
+        let mut tag = [0; 16];
+        let mut text = block(3);
+        lent::wrap(
+            &mut pile,
+            &mut doubling,
+            &block(2),
+            Some(&header),
+            &mut tag,
+            &mut text,
+        )?;
+        assert_ne!(rt; text, block(3));
+        lent::unwrap(
+            &mut pile,
+            &mut table,
+            &block(2),
+            Some(&header),
+            &tag,
+            &mut text,
+        )?;
+        assert_eq!(rt; text, block(3));
+        let sealed = sealing::seal(&pile, &doubling, Some(&header), &mut text);
+        assert_eq!(rt; sealed.to_bytes(), tag);
+        assert_eq!(rt;
+            sealing::open(&pile, &table, Some(&header), sealed, &mut text),
+            Ok(())
+        );
+        assert_eq!(rt; text, block(3));
+        Ok(())
+    }
+
+    // Bytes of which the last sixteen are sealed, opened there under a cipher that is lent.
+    #[test]
+    fn a_part_is_opened(rt: HostRuntime) -> Result<(), Fail> {
+        let cipher = Bench::new();
+        let header = block(1);
+        let mut sealed = block(3);
+        let tag = sealing::seal(&cipher, &Doubling::new(), Some(&header), &mut sealed);
+        let mut framed = [0; 20];
+        framed[4..].copy_from_slice(&sealed);
+        let mut watch = Watch {
+            bytes: &mut framed,
+            released: false,
+        };
+        watch.open_part_lent(&cipher, &Table::new(), &header, tag, 4, 20)?;
+        assert!(rt; watch.contents().ends_with(&block(3)));
         Ok(())
     }
 }

@@ -5,14 +5,15 @@ ghost use Rattle.mode.specs.Sealing.{opened_with, pair, sealed_with, streamed_wi
 ghost use Rattle.std.specs.Option.{option_copied};
 ghost use Rattle.std.specs.Prelude.{◌≡◌, length, is_ok, if◌then◌else◌, Some, None, ◌==◌};
 
-use crate::hash::hash;
 use crate::mismatch::Mismatch;
-use crate::stream::apply_stream;
+use crate::sealing;
 use block::Block;
 use cipher::{Cipher, WrongKeyLen};
 use multiplier::Multiplier;
 
 /// A cipher, and the multiplier that holds its hash key once a key is loaded.
+///
+/// Each call below is that of `sealing`, which takes the two parts lent.
 #[derive(Drop)]
 pub struct Hbs<C, M> {
     pub cipher: C,
@@ -33,18 +34,14 @@ impl<C: Cipher, M: Multiplier> Hbs<C, M> {
         ensures fits { is_ok result ≡ (length key.now == (C.scheme self.old.cipher).key_len) }
         ensures keys { Keyed C.Cipher M.Multiplier (is_ok result) key.now self.old self.new }
     {
-        self.cipher.load(key)?;
-        self.multiplier.load(self.cipher.encipher(Block::ZERO));
-        Ok(())
+        sealing::load_key(&mut self.cipher, &mut self.multiplier, key)
     }
 
     /// Seals `text` in place, and answers the tag.
     pub fn seal(&self, header: Option<&[u8]>, text: &mut [u8]) -> Block
         ensures { pair (num result) text.new ≡ sealed_with (keys C.Cipher M.Multiplier self.now) (option_copied header.entry) text.old }
     {
-        let start = hash(&self.multiplier, header, text);
-        apply_stream(&self.cipher, start, text);
-        self.cipher.encipher(start)
+        sealing::seal(&self.cipher, &self.multiplier, header, text)
     }
 
     /// Takes the stream off `text` in place. Refused where what is left is not authentic: it still stands in `text`
@@ -53,12 +50,6 @@ impl<C: Cipher, M: Multiplier> Hbs<C, M> {
         ensures opens { (if is_ok result then Some text.new else None) ≡ opened_with (keys C.Cipher M.Multiplier self.now) (option_copied header.entry) (pair (num tag) text.old) }
         ensures leaves { text.new ≡ streamed_with (keys C.Cipher M.Multiplier self.now) (num tag) text.old }
     {
-        let start = self.cipher.decipher(tag);
-        apply_stream(&self.cipher, start, text);
-        if hash(&self.multiplier, header, text) == start {
-            Ok(())
-        } else {
-            Err(Mismatch)
-        }
+        sealing::open(&self.cipher, &self.multiplier, header, tag, text)
     }
 }

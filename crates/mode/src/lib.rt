@@ -5,6 +5,7 @@ pub mod hash;
 pub mod hbs;
 pub mod mismatch;
 mod padding;
+pub mod sealing;
 pub mod stream;
 
 ghost use Rattle.mode.specs.Theorems.{Inverses};

@@ -6,8 +6,7 @@ use Rattle.block.proofs.Spelling.{spelled-bytes, spelled_block}
 use Rattle.cipher.specs.declared.Cipher as Cipher
 use Rattle.cipher.specs.Scheme.{Scheme, IsKey, Lawful}
 use Rattle.mode.specs.Hash.{hash}
-use Rattle.mode.specs.declared.hbs.Hbs.{Hbs}
-use Rattle.mode.specs.Keys.{Keyed, keys}
+use Rattle.mode.specs.Keys.{KeyedParts, held}
 use Rattle.mode.specs.Sealing.{Sealed, pair, sealed_by, sealed, opened, sealed_with, opened_with}
 use Rattle.mode.proofs.Hashes.{hash_lt}
 use Rattle.mode.proofs.Inverts.{inverses}
@@ -18,17 +17,17 @@ use Rattle.seal.specs.Sizes.{message_sized, sized}
 use Rattle.seal.specs.Wrapping.{cleared, given, accepted, left, verdict, Wrapped, Unwrapped}
 
 -- once a key is loaded, it is what is held, with its hash key
-held : {C M : Type 0} {cs : Cipher.Ghosts C} {ms : Multiplier.Ghosts M} {k : List ℕ} {hbs hbs' : Hbs C M}
-    → Keyed cs ms true k hbs hbs' → keys cs ms hbs' ≡ record { scheme = cs.scheme hbs.cipher; key = k; hash_key = (cs.scheme hbs.cipher).enc k 0 }
-held load = let scheme = load.scheme in let key = load.key refl in let hash_key = load.hash_key refl in cc
+loaded : {C M : Type 0} {cs : Cipher.Ghosts C} {ms : Multiplier.Ghosts M} {k : List ℕ} {c c' : C} {m m' : M}
+    → KeyedParts cs ms true k c m c' m' → held cs ms c' m' ≡ record { scheme = cs.scheme c; key = k; hash_key = (cs.scheme c).enc k 0 }
+loaded load = let scheme = load.scheme in let key = load.key refl in let hash_key = load.hash_key refl in cc
 
-pub seals_held : {C M : Type 0} {cs : Cipher.Ghosts C} {ms : Multiplier.Ghosts M} {k : List ℕ} {hbs hbs' : Hbs C M} {c : Sealed} (h : Option (List ℕ)) (x : List ℕ)
-    → Keyed cs ms true k hbs hbs' → c ≡ sealed_with (keys cs ms hbs') h x → c ≡ sealed (cs.scheme hbs.cipher) k h x
-seals_held h x load seals = seals ∙ ap (λ k. sealed_with k h x) (held load)
+pub seals_held : {C M : Type 0} {cs : Cipher.Ghosts C} {ms : Multiplier.Ghosts M} {k : List ℕ} {c c' : C} {m m' : M} {s : Sealed} (h : Option (List ℕ)) (x : List ℕ)
+    → KeyedParts cs ms true k c m c' m' → s ≡ sealed_with (held cs ms c' m') h x → s ≡ sealed (cs.scheme c) k h x
+seals_held h x load seals = seals ∙ ap (λ k. sealed_with k h x) (loaded load)
 
-pub opens_held : {C M : Type 0} {cs : Cipher.Ghosts C} {ms : Multiplier.Ghosts M} {k : List ℕ} {hbs hbs' : Hbs C M} {a : ℕ} {o : Option (List ℕ)} (h : Option (List ℕ)) (t x : List ℕ)
-    → Keyed cs ms true k hbs hbs' → a ≡ spelled t → o ≡ opened_with (keys cs ms hbs') h (pair a x) → opened (cs.scheme hbs.cipher) k h (given t x) ≡ o
-opens_held h t x load tag opens = sym (opens ∙ ap₂ (λ k a. opened_with k h (pair a x)) (held load) tag)
+pub opens_held : {C M : Type 0} {cs : Cipher.Ghosts C} {ms : Multiplier.Ghosts M} {k : List ℕ} {c c' : C} {m m' : M} {a : ℕ} {o : Option (List ℕ)} (h : Option (List ℕ)) (t x : List ℕ)
+    → KeyedParts cs ms true k c m c' m' → a ≡ spelled t → o ≡ opened_with (held cs ms c' m') h (pair a x) → opened (cs.scheme c) k h (given t x) ≡ o
+opens_held h t x load tag opens = sym (opens ∙ ap₂ (λ k a. opened_with k h (pair a x)) (loaded load) tag)
 
 module _ (s : Scheme) (k : List ℕ) (h : Option (List ℕ)) (t x : List ℕ) where
   pub past : length t ≡ 16 → message_sized h x ≡ true → eqb (length k) s.key_len ≡ true → sized s k h t x ≡ true

@@ -2,6 +2,7 @@
 #![tactic(auto)]
 
 pub mod fault;
+pub mod lent;
 pub mod sizes;
 pub mod watch;
 pub mod wrapping;

@@ -1,4 +1,4 @@
-// Wrap and unwrap: sealing and opening of one message in place, with the key handed in.
+// Wrap and unwrap under a cipher beside its multiplier.
 ghost use Rattle.mode.specs.Keys.{Keyed};
 ghost use Rattle.seal.specs.Answers.{answered};
 ghost use Rattle.seal.specs.Sizes.{sized};
@@ -6,9 +6,7 @@ ghost use Rattle.seal.specs.Wrapping.{Unwrapped, Wrapped};
 ghost use Rattle.std.specs.Option.{option_copied};
 
 use crate::fault::SealFault;
-use crate::sizes::sizes_fit;
-use crate::watch::Watch;
-use block::Block;
+use crate::lent;
 use cipher::Cipher;
 use mode::hbs::Hbs;
 use multiplier::Multiplier;
@@ -27,13 +25,7 @@ pub fn wrap<C: Cipher, M: Multiplier>(
     ensures seals { Wrapped (C.scheme hbs.old.cipher) key.now (option_copied header.entry) tag.old text.old (answered result) tag.new text.new }
     ensures keys { Keyed C.Cipher M.Multiplier (sized (C.scheme hbs.old.cipher) key.now (option_copied header.entry) tag.old text.old) key.now hbs.old hbs.new }
 {
-    let tag = tag.as_mut_array::<16>().ok_or(SealFault::Size)?;
-    if !sizes_fit(header, text) {
-        return Err(SealFault::Size);
-    }
-    hbs.load(key)?;
-    *tag = hbs.seal(header, text).to_bytes();
-    Ok(())
+    lent::wrap(&mut hbs.cipher, &mut hbs.multiplier, key, header, tag, text)
 }
 
 /// Opens `text` in place under `key`, where it belongs to the header and the tag.
@@ -50,15 +42,5 @@ pub fn unwrap<C: Cipher, M: Multiplier>(
     ensures opens { Unwrapped (C.scheme hbs.old.cipher) key.now (option_copied header.entry) tag.now text.old (answered result) text.new }
     ensures keys { Keyed C.Cipher M.Multiplier (sized (C.scheme hbs.old.cipher) key.now (option_copied header.entry) tag.now text.old) key.now hbs.old hbs.new }
 {
-    let mut watch = Watch {
-        bytes: text,
-        released: false,
-    };
-    let tag = tag.as_array::<16>().ok_or(SealFault::Size)?;
-    if !watch.fits(header) {
-        return Err(SealFault::Size);
-    }
-    hbs.load(key)?;
-    watch.open(hbs, header, Block::from_bytes(*tag))?;
-    Ok(())
+    lent::unwrap(&mut hbs.cipher, &mut hbs.multiplier, key, header, tag, text)
 }
