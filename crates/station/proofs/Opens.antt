@@ -138,7 +138,7 @@ key_long s b passes =
 -- ---- a part that was opened, as the part of a telegram that it is
 
 module _ (s : State) (b : List ℕ) (i : Incoming) (told : Told b i) where
-  pub part_message : (r : Bool) (h y : List ℕ) → h ≡ i.header.items
+  pub part_message : (r : Bool) (h y : List ℕ) → h ≡ between i.places.header.start i.places.header.end b
       → cond r (Some y) None ≡ part_opened i.places.ciphertext.start i.places.ciphertext.end (opened_by s.hash_key (s.scheme.enc s.key) (s.scheme.dec s.key) (Some h) (pair (num i.tag) (between i.places.ciphertext.start i.places.ciphertext.end b))) b
       → cond r (Some y) None ≡ option_map (λ m. with_message m b) (message s b)
   part_message r h y header is =

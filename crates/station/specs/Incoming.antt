@@ -17,12 +17,12 @@ pub record Told (b : List ℕ) (i : Incoming) : Type 0 where
   pub gauge : i.gauge ≡ (headed (parts b).header).gauge
   pub serial : i.serial ≡ (headed (parts b).header).serial
   pub kind : kind_byte i.kind ≡ (headed (parts b).header).kind
-  pub header : i.header.items ≡ (parts b).header
   pub header_len : i.sizes.header ≡ length (parts b).header
   pub message_len : i.sizes.message ≡ length (parts b).ciphertext
   pub tag : num i.tag ≡ spelled (parts b).tag
   pub places : i.places ≡ layout (length (parts b).header) (length (parts b).ciphertext)
-  -- the ciphertext lies at its place, which ends the buffer
+  -- the header and the ciphertext lie at their places, of which the latter ends the buffer
+  pub header : between i.places.header.start i.places.header.end b ≡ (parts b).header
   pub there : between i.places.ciphertext.start i.places.ciphertext.end b ≡ (parts b).ciphertext
   pub ends : i.places.ciphertext.end ≡ length b
 

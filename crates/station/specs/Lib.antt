@@ -1,6 +1,7 @@
 pub mod Admission
 pub mod Answers
 pub mod Calls
+pub mod Held
 pub mod Incoming
 pub mod Orders
 pub mod Reports

@@ -11,6 +11,7 @@ use Rattle.mode.specs.Sealing.{Keys}
 use Rattle.station.specs.declared.parts.Gauge.{Gauge}
 use Rattle.station.specs.declared.parts.Ledger.{Ledger}
 use Rattle.station.specs.declared.parts.Station.{Station}
+use Rattle.station.specs.Held.{held}
 use Rattle.station.specs.Use.{Use, unused, use_of}
 
 -- a key that waits, and the telegram that brought it
@@ -23,7 +24,7 @@ abbrev pub wait : ℕ → ℕ → List ℕ → Waiting
 wait sender serial key = record { sender = sender; serial = serial; key = key }
 
 abbrev pub waiting : Change → Waiting
-waiting c = record { sender = c.sender; serial = c.serial; key = c.key.items }
+waiting c = record { sender = c.sender; serial = c.serial; key = held c.key }
 
 pub record State : Type 0 where
   pub scheme : Scheme

@@ -15,7 +15,7 @@ use crate::wear::Wear;
 use telegram::kind::Kind;
 
 /// A telegram that may be opened, who sent it, and the wear with it counted.
-#[derive(Drop)]
+#[derive(Clone, Copy)]
 pub(crate) struct Admission {
     pub(crate) incoming: Incoming,
     pub(crate) sender: GaugeNumber,

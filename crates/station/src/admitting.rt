@@ -6,6 +6,7 @@ ghost use Rattle.station.specs.State.{running};
 
 use crate::admission::Admission;
 use crate::fault::StationFault;
+use crate::held::Held;
 use crate::incoming::Incoming;
 use crate::parts::Ledger;
 use cipher::Cipher;
@@ -14,6 +15,7 @@ use multiplier::Multiplier;
 use seal::watch::Watch;
 use telegram::kind::Kind;
 use telegram::parts::Place;
+use telegram::sizes::MAX_HEADER;
 
 impl Ledger {
     /// Opens a telegram of the kind that is wanted, and hears its serial. It stays under the watch.
@@ -33,8 +35,11 @@ impl Ledger {
             wear,
         } = self.examine(hbs, wanted, watch.contents())?;
         self.wear = wear;
+        // a copy: the watch lends all the buffer to be written, and one that splits it would serve this call alone
+        let Place { start, end } = incoming.places.header;
+        let header: Held<u8, MAX_HEADER> = Held::copied(&watch.contents()[start..end], 0);
         let Place { start, end } = incoming.places.ciphertext;
-        watch.open_part(hbs, &incoming.header, incoming.tag, start, end)?;
+        watch.open_part(hbs, header.as_slice(), incoming.tag, start, end)?;
         self.hear(sender, incoming.serial);
         Ok(incoming)
     }

@@ -8,6 +8,7 @@ pub mod declining;
 mod examining;
 pub mod fault;
 mod gauge_number;
+mod held;
 mod incoming;
 pub mod opening;
 pub mod opening_keys;

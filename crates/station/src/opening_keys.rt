@@ -6,9 +6,9 @@ ghost use Rattle.station.specs.State.{view, wait, waiting};
 ghost use Rattle.station.specs.Steps.{KeyOpening, answered};
 
 use crate::fault::StationFault;
+use crate::held::Held;
 use crate::order::ChangeOrder;
 use crate::parts::{Change, Station};
-use arrayvec::ArrayVec;
 use cipher::Cipher;
 use multiplier::Multiplier;
 use seal::watch::Watch;
@@ -24,7 +24,7 @@ impl Change {
         Change {
             sender,
             serial,
-            key: ArrayVec::try_from(key).unwrap(),
+            key: Held::copied(key, 0),
         }
     }
 }

@@ -1,6 +1,6 @@
 // What a station holds.
+use crate::held::Held;
 use crate::wear::Wear;
-use arrayvec::ArrayVec;
 use mode::hbs::Hbs;
 
 /// What is known of a gauge under the key in force.
@@ -12,17 +12,17 @@ pub struct Gauge {
 }
 
 /// A key that was opened, and waits to come into force.
-#[derive(Drop)]
+#[derive(Clone, Copy)]
 pub struct Change {
     pub(crate) sender: u8,
     pub(crate) serial: u32,
-    pub(crate) key: ArrayVec<u8, 255>,
+    pub(crate) key: Held<u8, 255>,
 }
 
 /// The record of a station that is started.
 // its methods take the Hbs beside it: both are lent from the station at once, and methods of the station would ask for the
 // ledger again
-#[derive(Drop)]
+#[derive(Clone, Copy)]
 pub struct Ledger {
     pub(crate) own: u8,
     // the last own serial given

@@ -1,13 +1,14 @@
 // Which gauges were heard.
 ghost use Rattle.std.specs.Prelude.{◌≡◌, map};
 ghost use Rattle.station.specs.Calls.{Reported};
+ghost use Rattle.station.specs.Held.{held};
 ghost use Rattle.station.specs.Reports.{Reporting, entry, heard_of};
 ghost use Rattle.station.specs.State.{view};
 ghost use Rattle.station.specs.Steps.{answered};
 
 use crate::fault::StationFault;
+use crate::held::Held;
 use crate::parts::{Ledger, Station};
-use arrayvec::ArrayVec;
 use cipher::Cipher;
 use multiplier::Multiplier;
 
@@ -24,10 +25,10 @@ pub struct Report {
 
 impl Ledger {
     /// An entry of five bytes for each gauge that was heard.
-    fn entries(&self) -> ArrayVec<[u8; 5], 16>
-        ensures { result.items ≡ map (entry self.now.gauges) (heard_of self.now.gauges 16) }
+    fn entries(&self) -> Held<[u8; 5], 16>
+        ensures { held result ≡ map (entry self.now.gauges) (heard_of self.now.gauges 16) }
     {
-        let mut entries = ArrayVec::new();
+        let mut entries = Held::none([0; 5]);
         for (number, gauge) in self.gauges.iter().enumerate() {
             if gauge.last != 0 {
                 let [a, b, c, d] = gauge.last.to_be_bytes();
@@ -48,13 +49,14 @@ impl<C: Cipher, M: Multiplier> Station<C, M> {
     {
         let ledger = self.ledger.as_ref().ok_or(StationFault::NotStarted)?;
         let entries = ledger.entries();
-        let bytes = entries.as_flattened();
+        let listed = entries.as_slice();
+        let bytes = listed.as_flattened();
         if out.len() < bytes.len() {
             return Err(StationFault::OutputShort);
         }
         out[0..bytes.len()].copy_from_slice(bytes);
         Ok(Report {
-            count: entries.len(),
+            count: listed.len(),
             calls: ledger.wear.calls,
             header_blocks: ledger.wear.header_blocks,
             message_blocks: ledger.wear.message_blocks,

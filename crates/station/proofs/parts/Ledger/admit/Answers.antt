@@ -1,5 +1,6 @@
 use Rattle.std.proofs.Common.{◌≡◌, ℕ, true, false, List, Some, None, refl, ap, ◌∙◌, subst}
 use Rattle.std.proofs.lemmas.Result.{err_from_is_err_and}
+use Rattle.std.specs.List.{between}
 use Rattle.station.specs.Admission.{Admitted}
 use Rattle.station.specs.Answers.{refusal}
 use Rattle.station.specs.State.{running}
@@ -27,7 +28,8 @@ returns-in_err-open_part-clause-admits g c =
     let b = c.args.watch.now.bytes.now in
     let x = c.in_ok-incoming.field-0 in
     let admitted : Admitted s c.args.wanted b x = subst (λ (z : List ℕ). Admitted s c.args.wanted z x) c.contents.ensures c.in_ok-incoming.ensures in
-    let opens = part_message s b x.incoming admitted.told false _ c.open_part.new.self.bytes.now c.deref.ensures.0 c.in_err-open_part.ensures.opens in
+    let header = c.as_slice.ensures ∙ c.copied-header.ensures ∙ ap (between x.incoming.places.header.start x.incoming.places.header.end) c.contents-2.ensures in
+    let opens = part_message s b x.incoming admitted.told false _ c.open_part.new.self.bytes.now header c.in_err-open_part.ensures.opens in
     let none = no_message (message s b) (λ m. with_message m b) opens in
     let from = err_from_is_err_and c.from_residual-in_err-open_part.result c.from_residual-in_err-open_part.ensures.1 in
     let fault = c.in_err-open_part.ensures.fault in
@@ -44,7 +46,8 @@ returns-clause-admits g c =
     let x = c.in_ok-incoming.field-0 in
     let admitted : Admitted s c.args.wanted b x = subst (λ (z : List ℕ). Admitted s c.args.wanted z x) c.contents.ensures c.in_ok-incoming.ensures in
     let left = c.open_part.new.self.bytes.now in
-    let opens = part_message s b x.incoming admitted.told true _ left c.deref.ensures.0 c.in_ok-open_part.ensures.opens in
+    let header = c.as_slice.ensures ∙ c.copied-header.ensures ∙ ap (between x.incoming.places.header.start x.incoming.places.header.end) c.contents-2.ensures in
+    let opens = part_message s b x.incoming admitted.told true _ left header c.in_ok-open_part.ensures.opens in
     let found = some_message (message s b) (λ m. with_message m b) left opens in
     record {
       answers = record {

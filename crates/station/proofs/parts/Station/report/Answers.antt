@@ -21,7 +21,7 @@ returns-in_err-ledger g c =
 pub returns-then-out-bytes : goal.returns-then-out-bytes
 returns-then-out-bytes g c =
     let s = running g.C.Cipher g.M.Multiplier c.args.self.now.hbs c.in_ok-ledger.ledger.now in
-    let is = c.deref.ensures.0 ∙ c.entries-entries.ensures in
+    let is = c.as_slice-listed.ensures ∙ c.entries-entries.ensures in
     let short : length c.args.out.now < 5 * length (heard_gauges s) = omega (arith, c.if-out-bytes.true, c.as_flattened-bytes.ensures.len, ap length is, length-map (heard_gauges s) (entry s.gauges)) in
     rw (sym c.as_ref.ensures.value ∙ ap option_copied c.in_ok-ledger.ensures.ok_part) (reports_short s c.args.out.now refl (lt-ltb _ _ short) refl refl)
 
@@ -30,10 +30,10 @@ returns g c =
     let s = running g.C.Cipher g.M.Multiplier c.args.self.now.hbs c.in_ok-ledger.ledger.now in
     let heard = heard_gauges s in
     let count = length-map heard (entry s.gauges) in
-    let is = c.deref.ensures.0 ∙ c.entries-entries.ensures in
+    let is = c.as_slice-listed.ensures ∙ c.entries-entries.ensures in
     let long : length c.as_flattened-bytes.result.now ≡ 5 * length heard = omega (arith, c.as_flattened-bytes.ensures.len, ap length is, count) in
     let bytes = c.copy_from_slice.ensures.after ∙ c.as_flattened-bytes.ensures.value ∙ ap (flat_map (λ x. x)) is ∙ joined s.gauges heard in
     rw (sym c.as_ref.ensures.value ∙ ap option_copied c.in_ok-ledger.ensures.ok_part)
     (reports s c.args.out.now refl (le-ltb _ _ (omega (arith, long, c.if-out-bytes.false)))
-    (ap (λ (n : ℕ). Reported n s.used.q s.used.h s.used.m) (c.len.ensures.value ∙ ap length c.entries-entries.ensures ∙ count))
+    (ap (λ (n : ℕ). Reported n s.used.q s.used.h s.used.m) (ap length is ∙ count))
     (ap₂ (λ (x : List ℕ) (n : ℕ). x ++ drop n c.args.out.now) bytes (sub-zero (length c.as_flattened-bytes.result.now) ∙ long)))
