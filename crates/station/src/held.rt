@@ -11,6 +11,7 @@ pub(crate) struct Held<T, const N: usize> {
     ghost fits: { len ≤ N },
 }
 
+// both by hand: neither can be derived for a struct with an invariant and a type parameter
 impl<T: Copy, const N: usize> Clone for Held<T, N> {
     ghost is_clone = { λ from to. to ≡ from };
 
